@@ -1,0 +1,7 @@
+pub mod Refused
+pub mod RoomLaws
+pub mod Pasting
+pub mod XorLaws
+pub mod Linear
+pub mod Every
+pub mod Walk

@@ -1,0 +1,4 @@
+pub mod Limit
+pub mod Refusal
+pub mod Room
+pub mod Xor

@@ -1,0 +1,16 @@
+// What every other crate stands on: the two kinds of count, the refusal numbers, and writing into lent room.
+pub mod limit;
+pub mod refusal;
+pub mod room;
+
+// A number of 16-bit words, or a place among them: camera sizes and positions.
+pub struct Words(pub usize);
+
+// A number of bytes, or a place among them: command lengths.
+pub struct Bytes(pub usize);
+
+// The reply of every writer of words: the words written, 0 on a refusal.
+pub struct Written {
+    pub refusal: u8,
+    pub length: Words,
+}
