@@ -1,0 +1,76 @@
+-- A block more of a message that is held as sixteen words. All is linear in what is held and in the block; so it is enough that a
+-- block alone, sixteen words on, has the register of the blocks that are put down for it: 64 powers of two, computed.
+use mathlib.Core.Path.{_≡_, refl, sym, ap, _∙_}
+use mathlib.Core.List.{List, [], _∷_, foldl}
+use Prim.Native.Nat.{ℕ, _*_, _/_, _%_, _^_, _<_}
+use lib.Bits.{xor-zero-r}
+use lib.ListN.{length}
+use Rattle.base.specs.Xor.{_⊕_}
+use Rattle.base.proofs.Linear.{Linear, shr, shl-in, low, after}
+use Rattle.crc.specs.Crc.{crcBit, crcStep, crcWords}
+use Rattle.crc.specs.Held.{lanes, joined}
+use Rattle.crc.proofs.Laws.{xorLists, fold-linear, words-linear}
+use Rattle.crc.proofs.Powers.{by-powers}
+
+-- ---- linear
+
+lane : (k : ℕ) → Linear (λ x. x / 2 ^ k % 2 ^ 16)
+lane k = after (λ x. x / 2 ^ k) (λ x. x % 2 ^ 16) (shr k) (low 16)
+
+lanes-linear : (x y : ℕ) → lanes (x ⊕ y) ≡ xorLists (lanes x) (lanes y)
+lanes-linear x y = cc (low 16 x y, lane 16 x y, lane 32 x y, lane 48 x y)
+
+pub joined-linear : (r s x y : ℕ) → joined (r ⊕ s) (x ⊕ y) ≡ joined r x ⊕ joined s y
+unfolding joined
+joined-linear r s x y = ap (crcWords (r ⊕ s)) (lanes-linear x y) ∙ words-linear r s (lanes x) (lanes y) refl
+
+-- the register goes into the first word, the lowest
+pub into-block : (r x : ℕ) → r < 2 ^ 16 → joined r x ≡ joined 0 (x ⊕ r)
+unfolding crcBit crcStep joined
+into-block r x h =
+    ap (joined r) (sym (xor-zero-r x)) ∙ joined-linear 0 r x 0
+    ∙ ap (λ (n : ℕ). joined 0 x ⊕ n) (by-powers (λ n. joined n 0) (joined 0) (λ m n. joined-linear m n 0 0) (λ m n. joined-linear 0 0 m n) 16 tt r h)
+    ∙ sym (joined-linear 0 0 x r)
+
+-- the register of blocks one after the other
+abbrev pub blocks : List ℕ → ℕ
+blocks = foldl joined 0
+
+blocks-linear : (m n : List ℕ) → length m ≡ length n → blocks (xorLists m n) ≡ blocks m ⊕ blocks n
+blocks-linear = fold-linear joined joined-linear 0 0
+
+-- ---- the block that goes, and what is put down for it
+
+abbrev goes : ℕ → List ℕ
+goes d = d ∷ 0 ∷ 0 ∷ 0 ∷ 0 ∷ []
+
+abbrev comes : ℕ → List ℕ
+comes d = d ∷ d * 2 ^ 48 % 2 ^ 64 ∷ d / 2 ^ 16 ∷ d ∷ []
+
+comes-linear : (d e : ℕ) → comes (d ⊕ e) ≡ xorLists (comes d) (comes e)
+comes-linear d e = cc (shl-in 64 48 d e, shr 16 d e)
+
+goes-comes : (d : ℕ) → d < 2 ^ 64 → blocks (goes d) ≡ blocks (comes d)
+unfolding crcBit crcStep joined
+goes-comes =
+    by-powers (λ d. blocks (goes d)) (λ d. blocks (comes d)) (λ d e. blocks-linear (goes d) (goes e) refl)
+    (λ d e. ap blocks (comes-linear d e) ∙ blocks-linear (comes d) (comes e) refl) 64 tt
+
+-- ---- a block more
+
+nothing : joined 0 0 ≡ 0
+unfolding crcBit crcStep joined
+nothing = refl
+
+pub join : (d c b a x : ℕ) → d < 2 ^ 64 → blocks (xorLists (comes d) (c ∷ b ∷ a ∷ x ∷ [])) ≡ blocks (d ∷ c ∷ b ∷ a ∷ x ∷ [])
+join d c b a x h =
+    blocks-linear (comes d) (c ∷ b ∷ a ∷ x ∷ []) refl
+    ∙ ap (λ (n : ℕ). n ⊕ blocks (c ∷ b ∷ a ∷ x ∷ [])) (sym (goes-comes d h))
+    ∙ ap (λ (n : ℕ). blocks (goes d) ⊕ foldl joined n (c ∷ b ∷ a ∷ x ∷ [])) (sym nothing)
+    ∙ sym (blocks-linear (goes d) (0 ∷ c ∷ b ∷ a ∷ x ∷ []) refl)
+    ∙ ap (λ (n : ℕ). blocks (n ∷ c ∷ b ∷ a ∷ x ∷ [])) (xor-zero-r d)
+
+-- ---- no block yet
+
+pub alone-linear : (v w : ℕ) → blocks (0 ∷ 0 ∷ 0 ∷ (v ⊕ w) ∷ []) ≡ blocks (0 ∷ 0 ∷ 0 ∷ v ∷ []) ⊕ blocks (0 ∷ 0 ∷ 0 ∷ w ∷ [])
+alone-linear v w = blocks-linear (0 ∷ 0 ∷ 0 ∷ v ∷ []) (0 ∷ 0 ∷ 0 ∷ w ∷ []) refl

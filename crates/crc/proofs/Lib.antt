@@ -1,0 +1,4 @@
+pub mod Powers
+pub mod Laws
+pub mod Joining
+pub mod Turns

@@ -1,0 +1,87 @@
+-- `crc::division::sixty_four` meets its contract: the code and the four words are linear in the block with the register in it, and
+-- they agree on the powers of two.
+use mathlib.Core.Path.{_≡_, sym, _∙_}
+use Prim.Native.Nat.{ℕ, _*_, _/_, _%_, _^_, _<_}
+use lib.Bits.{xor-lt}
+use borrow.Author.Needs.{needs}
+use native.Mathlib.Omega.{arith}
+use Rattle.base.specs.Xor.{_⊕_}
+use Rattle.base.proofs.Linear.{Linear, shr, shl-in, low, same, plus, after}
+use Rattle.crc.specs.Crc.{crcBit, crcStep}
+use Rattle.crc.specs.Held.{joined}
+use Rattle.crc.proofs.Joining.{joined-linear, into-block}
+use Rattle.crc.proofs.Powers.{by-powers, and-shr, rest, rest-linear}
+use Rattle.crc.proofs.division.sixty_four.Statement.{statement}
+use Rattle.crc.proofs.division.sixty_four.Tie as tie
+
+abbrev left : ℕ → ℕ → ℕ
+left k x = x * 2 ^ k % 2 ^ 64
+
+abbrev right : ℕ → ℕ → ℕ
+right k x = x / 2 ^ k
+
+-- the code's lines
+abbrev y : ℕ → ℕ
+y x = left 48 x ⊕ right 16 (left 48 (right 16 x)) ⊕ left 16 (right 48 (left 16 x)) ⊕ right 48 x
+
+abbrev e : ℕ → ℕ
+e x = x ⊕ right 4 x ⊕ right 11 x ⊕ right 16 x
+
+abbrev f : ℕ → ℕ
+f x = x ⊕ right 8 x ⊕ right 22 x ⊕ right 32 x
+
+abbrev g : ℕ → ℕ
+g x = x ⊕ right 16 x ⊕ right 44 x
+
+abbrev q : ℕ → ℕ
+q x = x ⊕ right 32 x
+
+abbrev product : ℕ → ℕ
+product x = rest 64 (q (g (f (e (y x)))))
+
+unfoldable code : ℕ → ℕ
+code x = product x % 2 ^ 16
+
+y-linear : Linear y
+y-linear =
+    and-shr (λ x. left 48 x ⊕ right 16 (left 48 (right 16 x)) ⊕ left 16 (right 48 (left 16 x)))
+    (plus (λ x. left 48 x ⊕ right 16 (left 48 (right 16 x))) (λ x. left 16 (right 48 (left 16 x)))
+    (plus (left 48) (λ x. right 16 (left 48 (right 16 x))) (shl-in 64 48)
+    (after (λ x. left 48 (right 16 x)) (right 16) (after (right 16) (left 48) (shr 16) (shl-in 64 48)) (shr 16)))
+    (after (λ x. right 48 (left 16 x)) (left 16) (after (left 16) (right 48) (shl-in 64 16) (shr 48)) (shl-in 64 16))) 48
+
+two : (i j : ℕ) → Linear (λ x. x ⊕ right i x ⊕ right j x)
+two i j = and-shr (λ x. x ⊕ right i x) (and-shr (λ x. x) same i) j
+
+three : (i j k : ℕ) → Linear (λ x. x ⊕ right i x ⊕ right j x ⊕ right k x)
+three i j k = and-shr (λ x. x ⊕ right i x ⊕ right j x) (two i j) k
+
+code-linear : Linear code
+unfolding code
+code-linear =
+    after product (λ x. x % 2 ^ 16)
+    (after (λ x. q (g (f (e (y x))))) (rest 64)
+    (after (λ x. g (f (e (y x)))) q
+    (after (λ x. f (e (y x))) g (after (λ x. e (y x)) f (after y e y-linear (three 4 11 16)) (three 8 22 32)) (two 16 44))
+    (and-shr (λ x. x) same 32))
+    (rest-linear 64))
+    (low 16)
+
+code-joined : (x : ℕ) → x < 2 ^ 64 → code x ≡ joined 0 x
+unfolding code crcBit crcStep joined
+code-joined = by-powers code (joined 0) code-linear (λ x y. joined-linear 0 0 x y) 64 tt
+
+low-requires : tie.Need-low-requires
+low-requires c κs = search needs
+
+returns : tie.Need-returns
+unfolding code
+returns c =
+    let r = c .before .args .r in
+    let b = c .before .args .block in
+    let small : r < 2 ^ 64 = omega arith in
+    c .low .ensures ∙ code-joined (b ⊕ r) (xor-lt 64 b r (c .before .fits .block .fits) small)
+    ∙ sym (into-block r b (c .before .fits .r .fits))
+
+pub sixty-four-spec : {M : Type 1} → statement M
+sixty-four-spec = tie.close (tie.spec low-requires returns)

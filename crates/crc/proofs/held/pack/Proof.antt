@@ -1,0 +1,50 @@
+-- `crc::held::pack` meets its contract: the exclusive-or of words at places apart is their sum, and the sum's digits are the words.
+use mathlib.Core.Path.{_≡_, ap, _∙_}
+use mathlib.Core.List.{[], _∷_}
+use Prim.Native.Nat.{ℕ, _+_, _*_, _/_, _%_, _^_, _<_, _≤_}
+use native.Mathlib.Omega.{arith}
+use lib.Dec.{lit≤}
+use lib.Pow.{shl-exact, low, high}
+use lib.Bits.{xor-comm, xor-shifted}
+use Rattle.base.specs.Xor.{_⊕_}
+use Rattle.crc.specs.Held.{lanes}
+use Rattle.crc.proofs.held.pack.Statement.{statement}
+use Rattle.crc.proofs.held.pack.Tie as tie
+
+-- one word more, at place k
+put : (k x y : ℕ) → k + 16 ≤ 64 → x < 2 ^ k → y < 65536 → x ⊕ y * 2 ^ k % 2 ^ 64 ≡ y * 2 ^ k + x
+put k x y p hx hy = ap (λ (n : ℕ). x ⊕ n) (shl-exact 16 k 64 hy (omega arith)) ∙ xor-comm x (y * 2 ^ k) ∙ xor-shifted y k x hx
+
+-- the word at place k of a sum
+word : (k over w under : ℕ) {n : ℕ} → n ≡ (over * 2 ^ 16 + w) * 2 ^ k + under → under < 2 ^ k → w < 65536 → n / 2 ^ k % 2 ^ 16 ≡ w
+word k over w under e h hw = ap (λ (n : ℕ). n / 2 ^ k % 2 ^ 16) e ∙ ap (λ (n : ℕ). n % 2 ^ 16) (high (over * 2 ^ 16 + w) k h) ∙ low over 16 hw
+
+digits : (a b c d : ℕ) → a < 65536 → b < 65536 → c < 65536 → d < 65536
+    → lanes (d * 2 ^ 48 + (c * 2 ^ 32 + (b * 2 ^ 16 + a))) ≡ a ∷ b ∷ c ∷ d ∷ []
+digits a b c d ha hb hc hd =
+    let n = d * 2 ^ 48 + (c * 2 ^ 32 + (b * 2 ^ 16 + a)) in
+    let ea : n ≡ (d * 2 ^ 32 + c * 2 ^ 16 + b) * 2 ^ 16 + a = omega arith in
+    cc (
+      ap (λ (m : ℕ). m % 2 ^ 16) ea ∙ low (d * 2 ^ 32 + c * 2 ^ 16 + b) 16 ha,
+      word 16 (d * 2 ^ 16 + c) b a {n = n} (omega arith) ha hb,
+      word 32 d c (b * 2 ^ 16 + a) {n = n} (omega arith) (omega arith) hc,
+      word 48 0 d (c * 2 ^ 32 + (b * 2 ^ 16 + a)) {n = n} (omega arith) (omega arith) hd,
+    )
+
+returns : tie.Need-returns
+returns c =
+    let a = c .args .a in
+    let b = c .args .b in
+    let w = c .args .c in
+    let d = c .args .d in
+    let ha : a < 65536 = c .fits .a .fits in
+    let hb : b < 65536 = c .fits .b .fits in
+    let hc : w < 65536 = c .fits .c .fits in
+    ap lanes
+    (ap (λ (x : ℕ). x ⊕ w * 2 ^ 32 % 2 ^ 64 ⊕ d * 2 ^ 48 % 2 ^ 64) (put 16 a b (lit≤ tt) ha hb)
+    ∙ ap (λ (x : ℕ). x ⊕ d * 2 ^ 48 % 2 ^ 64) (put 32 (b * 2 ^ 16 + a) w (lit≤ tt) (omega arith) hc)
+    ∙ put 48 (w * 2 ^ 32 + (b * 2 ^ 16 + a)) d (lit≤ tt) (omega arith) (c .fits .d .fits))
+    ∙ digits a b w d ha hb hc (c .fits .d .fits)
+
+pub pack-spec : {M : Type 1} → statement M
+pack-spec = tie.close (tie.spec returns)

@@ -1,0 +1,63 @@
+-- `crc::last_bytes` meets its contract: the bytes that are left take the register to the answer.
+use mathlib.Core.Path.{_≡_, refl, ap, _∙_}
+use Prim.Native.Nat.{ℕ, _*_, _%_, _-_}
+use native.Mathlib.Omega.{arith}
+use lib.ListN.{length, getD, drop}
+use borrow.Author.Needs.{needs}
+use Rattle.base.specs.Xor.{_⊕_}
+use Rattle.base.proofs.Walk.{turn, last}
+use Rattle.crc.specs.Crc.{crcBits, crcStep, crcBytes}
+use Rattle.crc.proofs.last_bytes.Statement.{statement}
+use Rattle.crc.proofs.last_bytes.Tie as tie
+
+abbrev Inv-loop : tie.InvT-loop
+Inv-loop start message from r₀ i₀ r i = crcBytes r (drop i message) ≡ crcBytes start (drop from message)
+
+abbrev μ-loop : tie.MeasureT-loop
+μ-loop start message from r₀ i₀ r i = length message - i
+
+loop-holds : tie.Need-loop-holds Inv-loop μ-loop
+loop-holds c = refl
+
+shared-slice-read-eight : tie.Need-shared-slice-read-eight Inv-loop μ-loop
+shared-slice-read-eight c = search needs
+
+cast-eight : tie.Need-cast-eight Inv-loop μ-loop
+cast-eight c = omega (arith, c .shared-slice-known2 .given (c .before .before .loop .i))
+
+eight-requires : tie.Need-eight-requires Inv-loop μ-loop
+eight-requires c κs = search needs
+
+add-i : tie.Need-add-i Inv-loop μ-loop
+add-i c = search needs
+
+loop-less : tie.Need-loop-less Inv-loop μ-loop
+loop-less c = search needs
+
+loop-again : tie.Need-loop-again Inv-loop μ-loop
+unfolding crcStep
+loop-again c =
+    let l = c .before .before .before in
+    let m = l .before .before .args .message .now in
+    let i = l .loop .i in
+    let b : getD m i 0 * 256 % 65536 ≡ getD m i 0 * 256 = omega (arith, c .before .shared-slice-known2 .given i) in
+    turn (crcStep 8) _ m _ _ (c .before .before .loop-test .taken)
+    (c .eight .ensures ∙ ap (λ (n : ℕ). crcBits 8 (l .loop .r ⊕ n)) b) (l .loop .inv)
+
+returns : tie.Need-returns Inv-loop μ-loop
+returns c = last (crcStep 8) _ (c .before .before .before .args .message .now) _ (c .loop-test .left) (c .before .loop .inv)
+
+pub last-bytes-spec : {M : Type 1} → statement M
+last-bytes-spec =
+    tie.close
+    (tie.spec
+    Inv-loop
+    μ-loop
+    loop-holds
+    shared-slice-read-eight
+    cast-eight
+    eight-requires
+    add-i
+    loop-less
+    loop-again
+    returns)

@@ -1,0 +1,58 @@
+-- `crc::last_words` meets its contract: the words that are left take the register to the answer.
+use mathlib.Core.Path.{_≡_, refl, sym, _∙_}
+use Prim.Native.Nat.{_-_}
+use lib.ListN.{length, drop}
+use borrow.Author.Needs.{needs}
+use Rattle.base.proofs.Walk.{turn, last}
+use Rattle.crc.specs.Crc.{crcStep, crcWords}
+use Rattle.crc.proofs.Laws.{word-step}
+use Rattle.crc.proofs.last_words.Statement.{statement}
+use Rattle.crc.proofs.last_words.Tie as tie
+
+abbrev Inv-loop : tie.InvT-loop
+Inv-loop start message from r₀ i₀ r i = crcWords r (drop i message) ≡ crcWords start (drop from message)
+
+abbrev μ-loop : tie.MeasureT-loop
+μ-loop start message from r₀ i₀ r i = length message - i
+
+loop-holds : tie.Need-loop-holds Inv-loop μ-loop
+loop-holds c = refl
+
+mul-sixteen : tie.Need-mul-sixteen Inv-loop μ-loop
+mul-sixteen c = search needs
+
+shared-slice-read-sixteen : tie.Need-shared-slice-read-sixteen Inv-loop μ-loop
+shared-slice-read-sixteen c = search needs
+
+sixteen-requires : tie.Need-sixteen-requires Inv-loop μ-loop
+sixteen-requires c κs = search needs
+
+add-i : tie.Need-add-i Inv-loop μ-loop
+add-i c = search needs
+
+loop-less : tie.Need-loop-less Inv-loop μ-loop
+loop-less c = search needs
+
+loop-again : tie.Need-loop-again Inv-loop μ-loop
+loop-again c =
+    let l = c .before .before .before in
+    turn (crcStep 16) _ (l .before .before .args .message .now) _ _ (c .before .before .loop-test .taken)
+    (c .sixteen .ensures ∙ sym (word-step _ _)) (l .loop .inv)
+
+returns : tie.Need-returns Inv-loop μ-loop
+returns c = last (crcStep 16) _ (c .before .before .before .args .message .now) _ (c .loop-test .left) (c .before .loop .inv)
+
+pub last-words-spec : {M : Type 1} → statement M
+last-words-spec =
+    tie.close
+    (tie.spec
+    Inv-loop
+    μ-loop
+    loop-holds
+    mul-sixteen
+    shared-slice-read-sixteen
+    sixteen-requires
+    add-i
+    loop-less
+    loop-again
+    returns)

@@ -1,0 +1,78 @@
+-- `crc::words` meets its contract: the words that are left take the register of what is held to the answer.
+use mathlib.Core.Path.{_≡_, ap, _∙_}
+use Prim.Native.Nat.{ℕ, _≤_, _-_}
+use native.Mathlib.Omega.{arith}
+use lib.ListN.{length, drop}
+use borrow.Author.Needs.{needs}
+use Rattle.crc.specs.Crc.{crcWords, crcWords}
+use Rattle.crc.specs.Held.{joined, registerOf}
+use Rattle.crc.proofs.Turns.{words-turn}
+use Rattle.crc.proofs.words.Statement.{statement}
+use Rattle.crc.proofs.words.Tie as tie
+
+abbrev Inv-loop : tie.InvT-loop
+Inv-loop start message n h₀ i₀ h i = (i ≤ length message) × (crcWords (registerOf h) (drop i message) ≡ crcWords start message)
+
+abbrev μ-loop : tie.MeasureT-loop
+μ-loop start message n h₀ i₀ h i = length message - i
+
+begin-requires : tie.Need-begin-requires Inv-loop μ-loop
+begin-requires c κs = search needs
+
+loop-holds : tie.Need-loop-holds Inv-loop μ-loop
+loop-holds c = (omega arith, ap (λ (r : ℕ). crcWords r (c .before .before .args .message .now)) (c .begin .ensures))
+
+add-loop : tie.Need-add-loop Inv-loop μ-loop
+add-loop c = search needs
+
+words-at-requires : tie.Need-words-at-requires Inv-loop μ-loop
+words-at-requires c κs = search needs
+
+join-requires : tie.Need-join-requires Inv-loop μ-loop
+join-requires c κs = search needs
+
+add-i : tie.Need-add-i Inv-loop μ-loop
+add-i c = search needs
+
+loop-less : tie.Need-loop-less Inv-loop μ-loop
+loop-less c = search needs
+
+loop-again : tie.Need-loop-again Inv-loop μ-loop
+unfolding joined
+loop-again c =
+    let l = c .before .before .before in (
+      omega arith,
+      words-turn _ (l .before .before .before .args .message .now) _ _ (c .before .before .loop-test .taken)
+          (c .join .ensures ∙ ap (crcWords (registerOf (l .loop .h))) (c .before .words-at .ensures)) (l .loop .inv .1),
+    )
+
+register-requires : tie.Need-register-requires Inv-loop μ-loop
+register-requires c κs = search needs
+
+last-words-requires : tie.Need-last-words-requires Inv-loop μ-loop
+last-words-requires c κs = search needs
+
+returns : tie.Need-returns Inv-loop μ-loop
+returns c =
+    let l = c .before .before .before in
+    c .last-words .ensures
+    ∙ ap (λ (r : ℕ). crcWords r (drop (l .loop .i) (l .before .before .before .args .message .now))) (c .before .register .ensures)
+    ∙ l .loop .inv .1
+
+pub words-spec : {M : Type 1} → statement M
+words-spec =
+    tie.close
+    (tie.spec
+    Inv-loop
+    μ-loop
+    begin-requires
+    loop-holds
+    add-loop
+    words-at-requires
+    join-requires
+    add-i
+    loop-less
+    loop-again
+    register-requires
+    last-words-requires
+    returns)
