@@ -1,0 +1,41 @@
+-- The loop that counts: what is counted up to `at` and what the reading gives from there on are all.
+use mathlib.Core.Path.{_≡_, ap, _∙_}
+use mathlib.Core.List.{List}
+use Prim.Native.Nat.{ℕ, _+_, _-_, _≤_}
+use native.Mathlib.Omega.{arith}
+use lib.ListN.{length, drop}
+use Rattle.chunk.specs.declared.Entry.{Entry}
+use Rattle.chunk.specs.Reading.{listed, reading, skippedFrom, skipped}
+use Rattle.chunk.proofs.Steps.{Next, Last, past}
+
+pub record Counted (sync : ℕ) (ws : List ℕ) (chunks noise at : ℕ) : Type 0 where
+  pub within : at ≤ length ws
+  pub few : chunks ≤ at
+  pub less : noise ≤ at
+  pub many : chunks + length (listed sync at 0 (drop at ws)) ≡ length (reading sync ws)
+  pub missed : noise + skippedFrom sync 0 (drop at ws) ≡ skipped sync ws
+
+module _ (sync : ℕ) (ws : List ℕ) where
+  pub start : Counted sync ws 0 0 0
+  start = record { within = omega arith; few = omega arith; less = omega arith; many = omega arith; missed = omega arith }
+
+  module _ (chunks noise at : ℕ) (c : Counted sync ws chunks noise at) where
+    pub turn : (e : Entry) → Next sync ws at e → (end : ℕ) → end ≡ past e → Counted sync ws (chunks + 1) (noise + (e .position .0 - at)) end
+    turn e s end n =
+        record {
+          within = omega (arith, s .within);
+          few = omega (arith, c .few, s .ahead);
+          less = omega (arith, c .less, s .ahead);
+          many =
+              ap (λ (m : ℕ). chunks + 1 + length (listed sync m 0 (drop m ws))) n
+              ∙ omega (arith, c .many, ap length (s .lists));
+          missed =
+              ap (λ (m : ℕ). noise + (e .position .0 - at) + skippedFrom sync 0 (drop m ws)) n
+              ∙ omega (arith, c .missed, s .skips);
+        }
+
+    pub all : Last sync ws at → chunks ≡ length (reading sync ws)
+    all l = omega (arith, c .many, ap length (l .lists))
+
+    pub rest : Last sync ws at → noise + (length ws - at) ≡ skipped sync ws
+    rest l = omega (arith, c .missed, l .skips)

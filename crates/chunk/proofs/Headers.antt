@@ -1,0 +1,125 @@
+-- Laws of headers at a place of a recording: what the header check looks at, and what a confirmed chunk tells.
+use mathlib.Core.Path.{_≡_, refl, ap, _∙_}
+use mathlib.Core.Bool.{Bool, true, false, cond, _&&_, _||_, false≢true}
+use mathlib.Core.List.{List, [], _∷_}
+use mathlib.Core.Logic.{_⊎_, inl, inr}
+use Prim.Native.Nat.{ℕ, _+_, _-_, _≤_, _<_, _%_}
+use native.Mathlib.Omega.{arith}
+use native.Mathlib.Numerals.{add-one}
+use lib.ListN.{length, getD, drop, length-drop}
+use lib.Seq.{drop-cons, drop-drop, getD-drop}
+use lib.Dec.{leb, eqb}
+use borrow.Author.Tests.{eqb-true, eqb-false, eq-eqb, ne-eqb, leb-true}
+use Rattle.chunk.specs.declared.Check.{Check}
+use Rattle.chunk.specs.Header.{size, kind, imageSize, healthSize, legalSize, legal, headed, span, ends, confirmed, checkOf}
+
+pub and-left : (a b : Bool) → a && b ≡ true → a ≡ true
+and-left true b e = refl
+and-left false b e = e
+
+pub and-right : (a b : Bool) → a && b ≡ true → b ≡ true
+and-right true b e = e
+and-right false true e = refl
+and-right false false e = e
+
+pub or-cases : (a b : Bool) → a || b ≡ true → (a ≡ true) ⊎ (b ≡ true)
+or-cases true b e = inl refl
+or-cases false b e = inr e
+
+-- the header check's two answers
+pub check-yes : (b : Bool) → checkOf b ≡ Check.Confirmed → b ≡ true
+check-yes true e = refl
+check-yes false e = let z : _≡_ {A = ℕ} 0 1 = cc in absurd (omega arith)
+
+pub check-no : (b : Bool) → checkOf b ≡ Check.NotAChunk → b ≡ false
+check-no true e = let z : _≡_ {A = ℕ} 0 1 = cc in absurd (omega arith)
+check-no false e = refl
+
+-- a legal payload has a word at the least, and the longest chunk has 8,186 words
+pub legal-size : (k n : ℕ) → legalSize k n ≡ true → (1 ≤ n) × (n ≤ 8184)
+unfolding legalSize
+legal-size k n e =
+    let bounds : leb 1 n && leb n 8190 ≡ true = and-left (leb 1 n && leb n 8190) (cond (eqb k 0) (imageSize n) (healthSize n)) e in
+    let low : 1 ≤ n = leb-true 1 n (and-left (leb 1 n) (leb n 8190) bounds) in
+    let high : n ≤ 8190 = leb-true n 8190 (and-right (leb 1 n) (leb n 8190) bounds) in
+    go low high (eqb k 0) (and-right (leb 1 n && leb n 8190) (cond (eqb k 0) (imageSize n) (healthSize n)) e)
+  where
+    go : 1 ≤ n → n ≤ 8190 → (b : Bool) → cond b (imageSize n) (healthSize n) ≡ true → (1 ≤ n) × (n ≤ 8184)
+    go low high true c =
+        elim (or-cases (eqb (n % 264) 0) (leb 9 (n % 264)) c) as (λ x. (1 ≤ n) × (n ≤ 8184)) [
+          | inl z ↦ (low, omega (arith, eqb-true (n % 264) 0 z))
+          | inr z ↦ (low, omega (arith, leb-true 9 (n % 264) z))
+        ]
+    go low high false c = (low, omega (arith, eqb-true (n % 32) 0 c))
+
+pub legal-bounds : (h : ℕ) → legal h ≡ true → (1 ≤ size h) × (size h ≤ 8184)
+unfolding legal
+legal-bounds h e = legal-size (kind h) (size h) (and-left (legalSize (kind h) (size h)) _ e)
+
+-- a header is the sync word and a legal header word
+pub headed-parts : (sync : ℕ) (ws : List ℕ) → headed sync ws ≡ true → (getD ws 0 0 ≡ sync) × (1 < length ws) × (legal (getD ws 1 0) ≡ true)
+unfolding headed
+headed-parts sync [] e = absurd (false≢true e)
+headed-parts sync (w ∷ []) e = absurd (false≢true e)
+headed-parts sync (w ∷ h ∷ ws) e = (eqb-true w sync (and-left (eqb w sync) (legal h) e), omega arith, and-right (eqb w sync) (legal h) e)
+
+-- the end of a chunk lies within the words
+pub ends-within : (sync n : ℕ) (ws : List ℕ) → ends sync n ws ≡ true → n ≤ length ws
+unfolding ends
+ends-within sync n ws e =
+    elim (or-cases (eqb n (length ws)) (headed sync (drop n ws)) e) as (λ x. n ≤ length ws) [
+      | inl z ↦ omega (arith, eqb-true n (length ws) z)
+      | inr z ↦ let h : 1 < length (drop n ws) = headed-parts sync (drop n ws) z .1 in omega (arith, simp length-drop at h)
+    ]
+
+-- a confirmed chunk lies within the words, and its size is legal
+pub confirmed-within : (sync : ℕ) (ws : List ℕ) → confirmed sync ws ≡ true → (span (getD ws 1 0) ≤ length ws) × (1 ≤ size (getD ws 1 0)) × (size (getD ws 1 0) ≤ 8184)
+unfolding confirmed
+confirmed-within sync ws e =
+    let h : headed sync ws ≡ true = and-left (headed sync ws) (ends sync (span (getD ws 1 0)) ws) e in
+    let b = legal-bounds (getD ws 1 0) (headed-parts sync ws h .2) in
+    (ends-within sync (span (getD ws 1 0)) ws (and-right (headed sync ws) (ends sync (span (getD ws 1 0)) ws) e), b .0, b .1)
+
+-- ---- at a place of a recording
+
+no-header : (sync : ℕ) (l : List ℕ) → length l < 2 → headed sync l ≡ false
+unfolding headed
+no-header sync [] h = refl
+no-header sync (w ∷ []) h = refl
+no-header sync (w ∷ v ∷ l) h = absurd (omega arith)
+
+shifted : (n at l end : ℕ) → at + n ≡ end → at ≤ l → eqb n (l - at) ≡ eqb end l
+shifted n at l end e h = go (eqb end l) refl
+  where
+    go : (b : Bool) → eqb end l ≡ b → eqb n (l - at) ≡ b
+    go true z = eq-eqb n (l - at) (omega (arith, eqb-true end l z))
+    go false z = ne-eqb n (l - at) (λ q. eqb-false end l z (omega arith))
+
+module _ (sync : ℕ) (ws : List ℕ) (at : ℕ) where
+  pub headed-none : length ws < at + 2 → headed sync (drop at ws) ≡ false
+  headed-none h = no-header sync (drop at ws) (simp length-drop (omega arith))
+
+  -- the two words of a header
+  pub headed-is : at + 1 < length ws → headed sync (drop at ws) ≡ eqb (getD ws at 0) sync && legal (getD ws (at + 1) 0)
+  unfolding headed
+  headed-is h =
+      rw (drop-cons ws at 0 (omega arith), ← add-one at, drop-cons ws (at + 1) 0 h)
+
+  -- a header lies within the recording
+  pub headed-inside : headed sync (drop at ws) ≡ true → at + 1 < length ws
+  headed-inside e = let h : 1 < length (drop at ws) = headed-parts sync (drop at ws) e .1 in omega (arith, simp length-drop at h)
+
+  pub confirmed-none : headed sync (drop at ws) ≡ false → confirmed sync (drop at ws) ≡ false
+  unfolding confirmed
+  confirmed-none e = ap (λ (b : Bool). b && ends sync (span (getD (drop at ws) 1 0)) (drop at ws)) e
+
+  -- where a header stands, the chunk is confirmed by what stands at its end
+  pub confirmed-is : (end : ℕ) → headed sync (drop at ws) ≡ true → end ≡ at + 2 + size (getD ws (at + 1) 0)
+      → confirmed sync (drop at ws) ≡ eqb end (length ws) || headed sync (drop end ws)
+  unfolding confirmed ends
+  confirmed-is end e n =
+      let s : at + span (getD (drop at ws) 1 0) ≡ end = omega (arith, ap size (getD-drop at ws 1 0)) in
+      let l : eqb (span (getD (drop at ws) 1 0)) (length (drop at ws)) ≡ eqb end (length ws) =
+      ap (eqb (span (getD (drop at ws) 1 0))) (length-drop at ws) ∙ shifted (span (getD (drop at ws) 1 0)) at (length ws) end s (omega (arith, headed-inside e)) in
+      let d : drop (span (getD (drop at ws) 1 0)) (drop at ws) ≡ drop end ws = drop-drop (span (getD (drop at ws) 1 0)) at ws ∙ ap (λ (m : ℕ). drop m ws) s in
+      rw (e, l, d)

@@ -1,0 +1,36 @@
+-- Whether a chunk is listed at a place, told by the search from a place before it where no chunk is in hand.
+use mathlib.Core.Path.{_≡_, refl, sym, ap, _∙_}
+use mathlib.Core.Bool.{Bool, true, false}
+use mathlib.Core.List.{List}
+use Prim.Native.Nat.{ℕ, _≤_, _<_, _-_}
+use native.Mathlib.Omega.{arith}
+use lib.ListN.{drop}
+use lib.Dec.{eqb, ltb}
+use borrow.Author.Tests.{eqb-true, eqb-false, ltb-true, ltb-false}
+use Rattle.chunk.specs.declared.Entry.{Entry}
+use Rattle.chunk.specs.Header.{confirmed}
+use Rattle.chunk.specs.Reading.{leftAt, listedAt}
+use Rattle.chunk.proofs.Steps.{Next, past, listed-at-yes, listed-at-no, listed-at-covered}
+
+module _ (sync : ℕ) (ws : List ℕ) (p : ℕ) (e : Entry) (s : Next sync ws p e) (i : ℕ) (z : leftAt sync 0 p ws ≡ 0) where
+  -- up to the next chunk, its own place alone
+  pub before : p ≤ i → i ≤ e .position .0 → eqb i (e .position .0) ≡ listedAt sync i ws
+  before a b = by-place (eqb i (e .position .0)) refl
+    where
+      by-place : (t : Bool) → eqb i (e .position .0) ≡ t → t ≡ listedAt sync i ws
+      by-place true q =
+          let n : i ≡ e .position .0 = eqb-true i (e .position .0) q in
+          sym (listed-at-yes sync i ws (s .free z i a b) (ap (λ (m : ℕ). confirmed sync (drop m ws)) n ∙ s .confirms))
+      by-place false q = sym (listed-at-no sync i ws (s .noise i a (less (ltb i (e .position .0)) refl)))
+        where
+          less : (t : Bool) → ltb i (e .position .0) ≡ t → i < e .position .0
+          less true l = ltb-true i (e .position .0) l
+          less false l = absurd (eqb-false i (e .position .0) q (omega (arith, ltb-false i (e .position .0) l)))
+
+  -- inside the chunk, nowhere
+  pub within : e .position .0 < i → i < past e → listedAt sync i ws ≡ false
+  within a b = listed-at-covered sync i ws (omega (arith, s .inside z i a (omega arith)))
+
+-- at its end no chunk is in hand
+pub after : (sync : ℕ) (ws : List ℕ) (p : ℕ) (e : Entry) → Next sync ws p e → leftAt sync 0 p ws ≡ 0 → leftAt sync 0 (past e) ws ≡ 0
+after sync ws p e s z = s .inside z (past e) (omega arith) (omega arith) ∙ omega arith

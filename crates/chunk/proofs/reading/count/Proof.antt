@@ -1,0 +1,111 @@
+-- `chunk::reading::count` meets its contract: the loop of `Counting`.
+use mathlib.Core.Path.{_≡_, sym, ap₂, _∙_}
+use Prim.Native.Nat.{_+_, _-_}
+use native.Mathlib.Omega.{arith}
+use lib.ListN.{length}
+use borrow.Author.Needs.{needs}
+use Rattle.chunk.specs.Replies.{surveyed}
+use Rattle.chunk.proofs.Steps.{Next, Last, past, stepped, ended}
+use Rattle.chunk.proofs.Counting.{Counted, start, turn, all, rest}
+use Rattle.chunk.proofs.reading.count.Statement.{statement}
+use Rattle.chunk.proofs.reading.count.Tie as tie
+
+abbrev Inv-loop : tie.InvT-loop
+Inv-loop words sync chunks₀ skipped₀ at₀ chunks skipped at = Counted sync words chunks skipped at
+
+abbrev μ-loop : tie.MeasureT-loop
+μ-loop words sync chunks₀ skipped₀ at₀ chunks skipped at = length words - at
+
+-- the chunk that was found
+step : (c : tie.After-known-told Inv-loop μ-loop)
+    → (let l = c .before .before .before .before in
+    Next (l .before .before .args .sync) (l .before .before .args .words .now) (l .loop .at) (c .before .found .given .0 .0))
+step c =
+    let l = c .before .before .before .before in
+    stepped (l .before .before .args .sync) (l .before .before .args .words .now) (l .loop .at) (c .before .found .given .0 .0)
+    (sym (c .before .before .before .next .ensures) ∙ c .before .found .given .1)
+
+-- the code's sum is the place past it
+ends : (c : tie.After-size-of Inv-loop μ-loop) → (let e = c .before .before .found .given .0 .0 in e .position .0 + 2 + c .size-of .result .0 ≡ past e)
+ends c = omega (arith, c .size-of .ensures)
+
+-- that there was none
+last : (c : tie.After-enum-told Inv-loop μ-loop)
+    → (let l = c .before .before .before in
+    Last (l .before .before .args .sync) (l .before .before .args .words .now) (l .loop .at))
+last c =
+    let l = c .before .before .before in
+    ended (l .before .before .args .sync) (l .before .before .args .words .now) (l .loop .at)
+    (sym (c .before .before .next .ensures) ∙ c .enum-told .given .1)
+
+loop-holds : tie.Need-loop-holds Inv-loop μ-loop
+loop-holds c = start (c .before .args .sync) (c .before .args .words .now)
+
+next-requires : tie.Need-next-requires Inv-loop μ-loop
+next-requires c κs = search needs
+
+enum-known-found : tie.Need-enum-known-found Inv-loop μ-loop
+enum-known-found c = search needs
+
+enum-told : tie.Need-enum-told Inv-loop μ-loop
+enum-told c = search needs
+
+sub-all : tie.Need-sub-all Inv-loop μ-loop
+sub-all c = search needs
+
+add-all : tie.Need-add-all Inv-loop μ-loop
+add-all c = search needs
+
+returns : tie.Need-returns Inv-loop μ-loop
+returns c =
+    let l = c .before .before .before in
+    let a = l .before .before .args in
+    ap₂ (surveyed 0) (all (a .sync) (a .words .now) _ _ _ (l .loop .inv) (last c)) (rest (a .sync) (a .words .now) _ _ _ (l .loop .inv) (last c))
+
+add-chunks : tie.Need-add-chunks Inv-loop μ-loop
+add-chunks c = record { fits = omega (arith, step c .ahead, step c .within) }
+
+sub-skipped : tie.Need-sub-skipped Inv-loop μ-loop
+sub-skipped c = omega (arith, step c .ahead)
+
+add-skipped : tie.Need-add-skipped Inv-loop μ-loop
+add-skipped c = record { fits = omega (arith, step c .ahead, step c .within) }
+
+add-at : tie.Need-add-at Inv-loop μ-loop
+add-at c = record { fits = omega (arith, step c .within) }
+
+size-of-requires : tie.Need-size-of-requires Inv-loop μ-loop
+size-of-requires c κs = search needs
+
+add-at-2 : tie.Need-add-at-2 Inv-loop μ-loop
+add-at-2 c = record { fits = omega (arith, step (c .before .before) .within, ends (c .before)) }
+
+loop-less : tie.Need-loop-less Inv-loop μ-loop
+loop-less c = omega (arith, ends (c .before), step (c .before .before) .ahead, step (c .before .before) .within)
+
+loop-again : tie.Need-loop-again Inv-loop μ-loop
+loop-again c =
+    let k = c .before .before in
+    turn _ _ _ _ _ (k .before .before .before .before .loop .inv) _ (step k) _ (ends (c .before))
+
+pub count-spec : {M : Type 1} → statement M
+count-spec =
+    tie.close
+    (tie.spec
+    Inv-loop
+    μ-loop
+    loop-holds
+    next-requires
+    enum-known-found
+    enum-told
+    sub-all
+    add-all
+    returns
+    add-chunks
+    sub-skipped
+    add-skipped
+    add-at
+    size-of-requires
+    add-at-2
+    loop-less
+    loop-again)

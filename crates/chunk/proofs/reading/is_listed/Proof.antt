@@ -1,0 +1,102 @@
+-- `chunk::reading::is_listed` meets its contract: at `at` no chunk is in hand, and the place is still to come.
+use mathlib.Core.Path.{_≡_, refl, sym, ap, _∙_}
+use Prim.Native.Nat.{ℕ, _+_, _-_, _≤_}
+use native.Mathlib.Omega.{arith}
+use lib.ListN.{length}
+use borrow.Author.Needs.{needs}
+use Rattle.chunk.specs.Reading.{leftAt}
+use Rattle.chunk.proofs.Steps.{Next, stepped, ended, past, listed-at-no}
+use Rattle.chunk.proofs.Places.{before, within, after}
+use Rattle.chunk.proofs.reading.is_listed.Statement.{statement}
+use Rattle.chunk.proofs.reading.is_listed.Tie as tie
+
+abbrev Inv-loop : tie.InvT-loop
+Inv-loop words sync asked at₀ at = (leftAt sync 0 at words ≡ 0) × (at ≤ asked)
+
+abbrev μ-loop : tie.MeasureT-loop
+μ-loop words sync asked at₀ at = length words - at
+
+loop-holds : tie.Need-loop-holds Inv-loop μ-loop
+unfolding leftAt
+loop-holds c = (refl, omega arith)
+
+next-requires : tie.Need-next-requires Inv-loop μ-loop
+next-requires c κs = search needs
+
+enum-known-found : tie.Need-enum-known-found Inv-loop μ-loop
+enum-known-found c = search needs
+
+enum-told : tie.Need-enum-told Inv-loop μ-loop
+enum-told c = search needs
+
+-- the chunk that was found
+step : (c : tie.After-known-told Inv-loop μ-loop)
+    → (let l = c .before .before .before .before in
+    Next (l .before .before .args .sync) (l .before .before .args .words .now) (l .loop .at) (c .before .found .given .0 .0))
+step c =
+    let l = c .before .before .before .before in
+    stepped (l .before .before .args .sync) (l .before .before .args .words .now) (l .loop .at) (c .before .found .given .0 .0)
+    (sym (c .before .before .before .next .ensures) ∙ c .before .found .given .1)
+
+-- the code's sum is the place past it
+ends : (c : tie.After-size-of Inv-loop μ-loop)
+    → (let e = c .before .before .before .found .given .0 .0 in e .position .0 + 2 + c .size-of .result .0 ≡ past e)
+ends c = omega (arith, c .size-of .ensures)
+
+returns : tie.Need-returns Inv-loop μ-loop
+returns c =
+    let l = c .before .before .before in
+    let a = l .before .before .args in
+    sym (listed-at-no (a .sync) (a .place .0) (a .words .now)
+    (ended (a .sync) (a .words .now) (l .loop .at) (sym (c .before .before .next .ensures) ∙ c .enum-told .given .1) .noise (a .place .0) (l .loop .inv .1)))
+
+returns-2 : tie.Need-returns-2 Inv-loop μ-loop
+returns-2 c =
+    let l = c .before .before .before .before .before in
+    let a = l .before .before .args in
+    before (a .sync) (a .words .now) (l .loop .at) _ (step (c .before)) (a .place .0) (l .loop .inv .0) (l .loop .inv .1) (omega arith)
+
+add-ends : tie.Need-add-ends Inv-loop μ-loop
+add-ends c = record { fits = omega (arith, step (c .before) .within) }
+
+size-of-requires : tie.Need-size-of-requires Inv-loop μ-loop
+size-of-requires c κs = search needs
+
+add-ends-2 : tie.Need-add-ends-2 Inv-loop μ-loop
+add-ends-2 c = record { fits = omega (arith, step (c .before .before .before) .within, ends (c .before)) }
+
+returns-3 : tie.Need-returns-3 Inv-loop μ-loop
+returns-3 c =
+    let k = c .before .before .before .before in
+    let l = k .before .before .before .before in
+    let a = l .before .before .args in
+    sym (within (a .sync) (a .words .now) (l .loop .at) _ (step k) (a .place .0) (l .loop .inv .0) (c .before .before .before .if1 .left) (omega (arith, ends (c .before .before))))
+
+loop-less : tie.Need-loop-less Inv-loop μ-loop
+loop-less c = omega (arith, ends (c .before .before), step (c .before .before .before .before) .ahead, step (c .before .before .before .before) .within)
+
+loop-again : tie.Need-loop-again Inv-loop μ-loop
+loop-again c =
+    let k = c .before .before .before .before in
+    let l = k .before .before .before .before in
+    let a = l .before .before .args in
+    (ap (λ (n : ℕ). leftAt (a .sync) 0 n (a .words .now)) (ends (c .before .before)) ∙ after (a .sync) (a .words .now) (l .loop .at) _ (step k) (l .loop .inv .0), c .if2 .left)
+
+pub is-listed-spec : {M : Type 1} → statement M
+is-listed-spec =
+    tie.close
+    (tie.spec
+    Inv-loop
+    μ-loop
+    loop-holds
+    next-requires
+    enum-known-found
+    enum-told
+    returns
+    returns-2
+    add-ends
+    size-of-requires
+    add-ends-2
+    returns-3
+    loop-less
+    loop-again)

@@ -1,0 +1,60 @@
+-- `chunk::write::write_chunk` meets its contract: a refusal returns before anything is written, and two writes end to end are the chunk.
+use Prim.Native.Nat.{_≤_}
+use native.Mathlib.Omega.{arith}
+use lib.ListN.{length}
+use borrow.Author.Needs.{needs}
+use Rattle.chunk.proofs.Wrote.{untouched, given, stored}
+use Rattle.chunk.proofs.write.write_chunk.Statement.{statement}
+use Rattle.chunk.proofs.write.write_chunk.Tie as tie
+
+-- what an accepted call was given
+accepted : (c : tie.Else1)
+    → (let a = c .before .before .before .before .before .args in (a .kind ≤ 1) × (a .camera ≤ 3) × (length (a .payload .now) ≤ 8190))
+accepted c =
+    let a = c .before .before .before .before .before .args in
+    given (a .sync) (a .kind) (a .camera) (a .payload .now) (a .room .now) _ (c .before .before .plan .ensures) (c .if1 .left)
+
+plan-requires : tie.Need-plan-requires
+plan-requires c κs = search needs
+
+returns : tie.Need-returns
+returns c = (c .before .before .plan .ensures, untouched _ _ _ _ _ _ (c .before .before .plan .ensures) (c .if1 .taken))
+
+cast-header-word : tie.Need-cast-header-word
+cast-header-word c = record { fits = omega (arith, accepted c .2) }
+
+header-word-requires : tie.Need-header-word-requires
+header-word-requires c κs = accepted c
+
+slice-aggregate-put-words : tie.Need-slice-aggregate-put-words
+slice-aggregate-put-words c = search needs
+
+put-words-requires : tie.Need-put-words-requires
+put-words-requires c κs = search needs
+
+put-words-requires-2 : tie.Need-put-words-requires-2
+put-words-requires-2 c κs = search needs
+
+same-length : tie.Need-same-length
+same-length c = search needs
+
+returns-2 : tie.Need-returns-2
+returns-2 c =
+    let p = c .before .before .before .before .before .before in
+    let h = p .before .before .before in
+    let e = h .before .before .before .plan .ensures in
+    (e, stored _ _ _ _ _ _ e (h .before .if1 .left) _ (h .header-word .ensures) _ _ (p .put-words .ensures) (c .before .before .put-words2 .ensures))
+
+pub write-chunk-spec : {M : Type 1} → statement M
+write-chunk-spec =
+    tie.close
+    (tie.spec
+    plan-requires
+    returns
+    cast-header-word
+    header-word-requires
+    slice-aggregate-put-words
+    put-words-requires
+    put-words-requires-2
+    same-length
+    returns-2)

@@ -1,0 +1,66 @@
+-- Document 01, "Chunks": the reading of a recording, by place. Every definition goes through the words one at a time; `left` is the number of words
+-- ahead that belong to a chunk which is listed already.
+use Prim.Native.Nat.{ℕ, zero, suc, _+_}
+use mathlib.Core.Bool.{Bool, true, false, cond, _&&_}
+use mathlib.Core.List.{List, [], _∷_}
+use lib.ListN.{getD, drop}
+use lib.Dec.{eqb}
+use Rattle.chunk.specs.declared.Entry.{Entry}
+use Rattle.chunk.specs.declared.Found.{Found}
+use Rattle.chunk.specs.Header.{size, span, confirmed}
+
+-- the entry of a chunk: its position and its header word
+abbrev pub entry : ℕ → ℕ → Entry
+entry at h = record { position = record { 0 = at }; header = h }
+
+-- Where a chunk is confirmed it is listed and reading goes on at its end; otherwise it goes on one word further. The first word stands at `at`.
+unfoldable pub listed : ℕ → ℕ → ℕ → List ℕ → List Entry
+listed sync at left [] = []
+listed sync at (suc left) (w ∷ ws) = listed sync (suc at) left ws
+listed sync at zero (w ∷ ws) =
+    elim (confirmed sync (w ∷ ws)) [
+      | true ↦ entry at (getD ws 0 0) ∷ listed sync (suc at) (suc (size (getD ws 0 0))) ws
+      | false ↦ listed sync (suc at) zero ws
+    ]
+
+-- the chunks of a recording: reading starts at position 0
+abbrev pub reading : ℕ → List ℕ → List Entry
+reading sync ws = listed sync 0 0 ws
+
+-- The words inside no listed chunk, counted at the places where they stand.
+unfoldable pub skippedFrom : ℕ → ℕ → List ℕ → ℕ
+skippedFrom sync left [] = 0
+skippedFrom sync (suc left) (w ∷ ws) = skippedFrom sync left ws
+skippedFrom sync zero (w ∷ ws) =
+    elim (confirmed sync (w ∷ ws)) [
+      | true ↦ skippedFrom sync (suc (size (getD ws 0 0))) ws
+      | false ↦ suc (skippedFrom sync zero ws)
+    ]
+
+abbrev pub skipped : ℕ → List ℕ → ℕ
+skipped sync ws = skippedFrom sync 0 ws
+
+-- the words of the chunks of a list
+unfoldable pub listedWords : List Entry → ℕ
+listedWords [] = 0
+listedWords (e ∷ es) = span (e .header) + listedWords es
+
+-- The state of the reading at the place p: how many words are left there of a chunk that is listed already.
+unfoldable pub leftAt : ℕ → ℕ → ℕ → List ℕ → ℕ
+leftAt sync left zero ws = left
+leftAt sync left (suc p) [] = 0
+leftAt sync (suc left) (suc p) (w ∷ ws) = leftAt sync left p ws
+leftAt sync zero (suc p) (w ∷ ws) = leftAt sync (cond (confirmed sync (w ∷ ws)) (suc (size (getD ws 0 0))) 0) p ws
+
+-- a chunk is listed at the place p: no chunk that is listed before reaches over it, and one is confirmed there
+unfoldable pub listedAt : ℕ → ℕ → List ℕ → Bool
+listedAt sync p ws = eqb (leftAt sync 0 p ws) 0 && confirmed sync (drop p ws)
+
+-- The search: one word at a time until a chunk is confirmed or no words are left. The first word stands at `at`.
+unfoldable pub found : ℕ → ℕ → List ℕ → Found
+found sync at [] = Found.End
+found sync at (w ∷ ws) = elim (confirmed sync (w ∷ ws)) [ true ↦ Found.Chunk (entry at (getD ws 0 0)) | false ↦ found sync (suc at) ws ]
+
+-- the next confirmed chunk at or after the place p
+abbrev pub nextFrom : ℕ → ℕ → List ℕ → Found
+nextFrom sync p ws = found sync p (drop p ws)

@@ -1,0 +1,99 @@
+// The header: its two words, its fields, and the check whether a chunk is confirmed at a place.
+use crate::Check;
+use base::Words;
+ghost use mathlib.Core.Path.{_≡_};
+ghost use mathlib.Core.Bool.{cond};
+ghost use lib.ListN.{drop};
+ghost use Rattle.chunk.specs.Header.{size, camera, kind, legalSize, legal, headed, confirmed, checkOf};
+
+// the words of the header
+pub const HEADER: usize = 2;
+
+// the longest payload
+const LONGEST: usize = 8190;
+
+// the words of a whole image unit, and the fewest of a shorter one
+const UNIT: usize = 264;
+
+const LEAST_UNIT: usize = 9;
+
+// the words of a health packet
+const PACKET: usize = 32;
+
+// The words after the header.
+pub fn size_of(header: u16) -> Words
+    ensures { λ r. ⌜ r .0 ≡ size header ⌝ }
+{
+    Words((header % 8192) as usize)
+}
+
+pub fn camera_of(header: u16) -> u16
+    ensures { λ r. ⌜ r ≡ camera header ⌝ }
+{
+    header / 8192 % 4
+}
+
+// 0 image, 1 health
+pub fn kind_of(header: u16) -> u16
+    ensures { λ r. ⌜ r ≡ kind header ⌝ }
+{
+    header / 32768 % 2
+}
+
+fn either(test: bool, yes: bool, no: bool) -> bool
+    ensures { λ r. ⌜ r ≡ cond test yes no ⌝ }
+{
+    if test { yes } else { no }
+}
+
+// Whether a chunk of the kind may have a payload of this size.
+pub fn legal_size(kind: u16, size: Words) -> bool
+    ensures { λ r. ⌜ r ≡ legalSize kind (size .0) ⌝ }
+{
+    let n = size.0;
+    let image = (n % UNIT == 0) | (LEAST_UNIT <= n % UNIT);
+    let health = n % PACKET == 0;
+    (1 <= n) & (n <= LONGEST) & either(kind == 0, image, health)
+}
+
+pub fn legal_word(header: u16) -> bool
+    ensures { λ r. ⌜ r ≡ legal header ⌝ }
+{
+    let kind = kind_of(header);
+    legal_size(kind, size_of(header)) & ((kind == 0) | (camera_of(header) == 0))
+}
+
+// Whether a legal header stands at a place: the sync word is looked at first.
+fn headed_at(words: &[u16], sync: u16, at: usize) -> bool
+    ensures { λ r. ⌜ r ≡ headed sync (drop at (now (words .entry))) ⌝ }
+{
+    if words.len() < HEADER {
+        return false;
+    }
+    if words.len() - HEADER < at {
+        return false;
+    }
+    if words[at] != sync {
+        return false;
+    }
+    legal_word(words[at + 1])
+}
+
+// What stands at a place: a chunk is confirmed by a legal header whose end is the recording's or has a legal header itself.
+pub fn check(words: &[u16], sync: u16, at: Words) -> Check
+    ensures { λ r. ⌜ r ≡ checkOf (confirmed sync (drop (at .0) (now (words .entry)))) ⌝ }
+{
+    let place = at.0;
+    if !headed_at(words, sync, place) {
+        return Check::NotAChunk;
+    }
+    let size = size_of(words[place + 1]);
+    let end = place + HEADER + size.0;
+    if end == words.len() {
+        return Check::Confirmed;
+    }
+    if headed_at(words, sync, end) {
+        return Check::Confirmed;
+    }
+    Check::NotAChunk
+}

@@ -1,0 +1,140 @@
+// The reading of a recording: its chunks counted, and one of them by its place.
+use crate::Chunk;
+use crate::Found;
+use crate::Survey;
+use crate::header;
+use crate::search;
+use base::Words;
+use base::limit;
+use base::refusal;
+ghost use mathlib.Core.Path.{_≡_};
+ghost use lib.ListN.{length};
+ghost use lib.Dec.{ltb};
+ghost use Rattle.base.specs.Limit.{recordingLimit};
+ghost use Rattle.base.specs.Refusal.{verdict};
+ghost use Rattle.chunk.specs.Reading.{listedAt};
+ghost use Rattle.chunk.specs.Replies.{countOf, surveyOf, placeCauses, fieldsOf, chunkAt, payloadAt};
+
+// The chunks and the skipped words of any words.
+pub fn count(words: &[u16], sync: u16) -> Survey
+    ensures { λ r. ⌜ r ≡ countOf sync (now (words .entry)) ⌝ }
+{
+    let mut chunks: usize = 0;
+    let mut skipped: usize = 0;
+    let mut at: usize = 0;
+    loop {
+        let found = search::next(words, sync, Words(at));
+        let Found::Chunk(entry) = found else {
+            let all = skipped + (words.len() - at);
+            return Survey {
+                refusal: 0,
+                chunks: chunks,
+                skipped: Words(all),
+            };
+        };
+        let begins = entry.position.0;
+        chunks += 1;
+        skipped += begins - at;
+        at = begins + header::HEADER + header::size_of(entry.header).0;
+    }
+}
+
+fn too_long(recording: &[u16]) -> bool
+    ensures { λ r. ⌜ r ≡ ltb recordingLimit (length (now (recording .entry))) ⌝ }
+{
+    limit::RECORDING < recording.len()
+}
+
+// The chunks and the skipped words of a recording.
+pub fn survey(recording: &[u16], sync: u16) -> Survey
+    ensures { λ r. ⌜ r ≡ surveyOf sync (now (recording .entry)) ⌝ }
+{
+    if too_long(recording) {
+        return Survey {
+            refusal: refusal::LENGTH,
+            chunks: 0,
+            skipped: Words(0),
+        };
+    }
+    count(recording, sync)
+}
+
+// Whether a chunk is listed at a place: the reading is followed up to it.
+pub fn is_listed(words: &[u16], sync: u16, place: Words) -> bool
+    ensures { λ r. ⌜ r ≡ listedAt sync (place .0) (now (words .entry)) ⌝ }
+{
+    let asked = place.0;
+    let mut at = 0;
+    loop {
+        let found = search::next(words, sync, Words(at));
+        let Found::Chunk(entry) = found else {
+            return false;
+        };
+        let begins = entry.position.0;
+        if asked <= begins {
+            return asked == begins;
+        }
+        let ends = begins + header::HEADER + header::size_of(entry.header).0;
+        if asked < ends {
+            return false;
+        }
+        at = ends;
+    }
+}
+
+// The refusal number for a place of a recording.
+fn judge(recording: &[u16], sync: u16, place: Words) -> u8
+    ensures { λ r. ⌜ r ≡ verdict (placeCauses sync (now (recording .entry)) (place .0)) ⌝ }
+{
+    if too_long(recording) {
+        return refusal::LENGTH;
+    }
+    refusal::cause(
+        refusal::NOTHING_THERE,
+        !is_listed(recording, sync, place),
+        0,
+    )
+}
+
+// The fields of a header word.
+fn fields(word: u16) -> Chunk
+    ensures { λ r. ⌜ r ≡ fieldsOf word ⌝ }
+{
+    Chunk {
+        refusal: 0,
+        kind: header::kind_of(word),
+        camera: header::camera_of(word),
+        size: header::size_of(word),
+    }
+}
+
+// The chunk listed at a place.
+pub fn at(recording: &[u16], sync: u16, place: Words) -> Chunk
+    ensures { λ r. ⌜ r ≡ chunkAt sync (now (recording .entry)) (place .0) ⌝ }
+{
+    let begins = place.0;
+    let verdict = judge(recording, sync, place);
+    if verdict != 0 {
+        return Chunk {
+            refusal: verdict,
+            kind: 0,
+            camera: 0,
+            size: Words(0),
+        };
+    }
+    fields(recording[begins + 1])
+}
+
+// The payload of the chunk listed at a place, as a part of the recording; empty where `at` refuses.
+pub fn payload(recording: &[u16], sync: u16, place: Words) -> &[u16]
+    ensures { λ r. ⌜ now r ≡ payloadAt sync (now (recording .entry)) (place .0) ⌝ }
+{
+    let begins = place.0;
+    let chunk = at(recording, sync, place);
+    if chunk.refusal != 0 {
+        return &recording[..0];
+    }
+    let from = begins + header::HEADER;
+    let to = from + chunk.size.0;
+    &recording[from..to]
+}

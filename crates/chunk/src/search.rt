@@ -1,0 +1,30 @@
+// The search for the next chunk.
+use crate::Check;
+use crate::Entry;
+use crate::Found;
+use crate::header;
+use base::Words;
+ghost use mathlib.Core.Path.{_≡_};
+ghost use Rattle.chunk.specs.Reading.{nextFrom};
+
+// The next confirmed chunk at or after a place. In a stretch of noise each word is looked at once.
+pub fn next(words: &[u16], sync: u16, from: Words) -> Found
+    ensures { λ r. ⌜ r ≡ nextFrom sync (from .0) (now (words .entry)) ⌝ }
+{
+    let mut at = from.0;
+    let found = loop {
+        if words.len() <= at {
+            break Found::End;
+        }
+        let here = header::check(words, sync, Words(at));
+        if let Check::Confirmed = here {
+            let second = at + 1;
+            break Found::Chunk(Entry {
+                position: Words(at),
+                header: base::room::word_at(words, Words(second)),
+            });
+        }
+        at += 1;
+    };
+    found
+}

@@ -1,0 +1,7 @@
+pub mod Tests
+pub mod ByPlace
+pub mod Rows
+pub mod Stretch
+pub mod Resync
+pub mod Skipped
+pub mod Written

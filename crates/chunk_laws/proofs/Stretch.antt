@@ -1,0 +1,128 @@
+-- A stretch in whose chunks no legal header begins: a chunk that ends in it ends where one of its own begins or with the stretch, and there no words
+-- are left of a chunk when the stretch is read alone. A clean stretch is such a one. Assumes nothing.
+use mathlib.Core.Path.{_≡_, refl, sym, ap, _∙_}
+use mathlib.Core.Bool.{Bool, true, false, cond, not, _&&_, false≢true}
+use mathlib.Core.List.{List, [], _∷_, _++_}
+use mathlib.Core.Logic.{inl, inr}
+use Prim.Native.Nat.{ℕ, zero, suc, _+_, _-_, _≤_, _<_, _%_}
+use native.Mathlib.Omega.{arith}
+use native.Mathlib.Numerals.{one-add}
+use native.Mathlib.Decide.{decLt}
+use lib.ListN.{length, drop, length-append}
+use lib.Seq.{drop-drop}
+use lib.Dec.{leb, eqb}
+use borrow.Author.Tests.{eqb-true, leb-true, not-true}
+use Rattle.chunk.specs.Header.{size, span, kind, imageSize, healthSize, legalSize, legal, headed, ends}
+use Rattle.chunk.specs.Reading.{reading, leftAt}
+use Rattle.chunk.proofs.Headers.{and-left, and-right, or-cases, legal-bounds}
+use Rattle.chunk_laws.specs.Stretch.{Chunk, words, offset, entries, whole, wholeRow, lacks, clean, headless, unbroken}
+use Rattle.chunk_laws.proofs.Tests.{and-both}
+use Rattle.chunk_laws.proofs.Rows.{long, ends-past, lists-row, left-rest}
+
+-- ---- legal headers
+
+-- a payload has 9 words at the least
+pub legal-least : (h : ℕ) → legal h ≡ true → 9 ≤ size h
+unfolding legal legalSize
+legal-least h e =
+    by-kind (eqb (kind h) 0) (and-right (leb 1 (size h) && leb (size h) 8190) _ (and-left (legalSize (kind h) (size h)) _ e)) (legal-bounds h e .0)
+  where
+    by-kind : (b : Bool) → cond b (imageSize (size h)) (healthSize (size h)) ≡ true → 1 ≤ size h → 9 ≤ size h
+    by-kind true c some =
+        elim (or-cases (eqb (size h % 264) 0) (leb 9 (size h % 264)) c) as (λ x. 9 ≤ size h) [
+          | inl z ↦ omega (arith, eqb-true (size h % 264) 0 z)
+          | inr z ↦ omega (arith, leb-true 9 (size h % 264) z)
+        ]
+    by-kind false c some = omega (arith, eqb-true (size h % 32) 0 c)
+
+headed-sync : (sync w : ℕ) (ws : List ℕ) → eqb w sync ≡ false → headed sync (w ∷ ws) ≡ false
+unfolding headed
+headed-sync sync w [] e = refl
+headed-sync sync w (h ∷ ws) e = ap (λ (b : Bool). b && legal h) e
+
+-- ---- the mission's condition gives the weaker one
+
+headless-at : (sync n : ℕ) (ws : List ℕ) → headless sync n ws ≡ true → (i : ℕ) → i < n → headed sync (drop i ws) ≡ false
+unfolding headless
+headless-at sync zero ws k i h = absurd (omega arith)
+headless-at sync (suc n) ws k zero h = not-true (headed sync ws) (and-left (not (headed sync ws)) _ k)
+headless-at sync (suc n) ws k (suc i) h =
+    rw (← one-add i, ← drop-drop i 1 ws) (headless-at sync n (drop 1 ws) (and-right (not (headed sync ws)) _ k) i (omega arith))
+
+lacks-headless : (sync : ℕ) (xs ws : List ℕ) → lacks sync xs ≡ true → headless sync (length xs) (xs ++ ws) ≡ true
+unfolding lacks headless
+lacks-headless sync [] ws k = refl
+lacks-headless sync (x ∷ xs) ws k =
+    rw (headed-sync sync x (xs ++ ws) (not-true (eqb x sync) (and-left (not (eqb x sync)) _ k)))
+    (lacks-headless sync xs ws (and-right (not (eqb x sync)) _ k))
+
+pub clean-unbroken : (sync : ℕ) (cs : List Chunk) → clean sync cs ≡ true → unbroken sync cs ≡ true
+unfolding clean unbroken
+clean-unbroken sync [] k = refl
+clean-unbroken sync (c ∷ cs) k =
+    let own : Bool = whole c && lacks sync (c .header ∷ c .payload) in
+    let t : own ≡ true = and-left own _ k in
+    and-both (whole c && headless sync (suc (length (c .payload))) (c .header ∷ (c .payload ++ words sync cs))) _
+    (and-both (whole c) _ (and-left (whole c) _ t) (lacks-headless sync (c .header ∷ c .payload) (words sync cs) (and-right (whole c) _ t)))
+    (clean-unbroken sync cs (and-right own _ k))
+
+-- ---- what a stretch with no header inside its chunks has
+
+first-whole : (sync : ℕ) (c : Chunk) (cs : List Chunk) → unbroken sync (c ∷ cs) ≡ true → whole c ≡ true
+unfolding unbroken
+first-whole sync c cs k = and-left (whole c) _ (and-left (whole c && _) _ k)
+
+rest-unbroken : (sync : ℕ) (c : Chunk) (cs : List Chunk) → unbroken sync (c ∷ cs) ≡ true → unbroken sync cs ≡ true
+unfolding unbroken
+rest-unbroken sync c cs k = and-right (whole c && headless sync (suc (length (c .payload))) (c .header ∷ (c .payload ++ words sync cs))) _ k
+
+pub unbroken-row : (sync : ℕ) (cs : List Chunk) → unbroken sync cs ≡ true → wholeRow cs ≡ true
+unfolding wholeRow
+unbroken-row sync [] k = refl
+unbroken-row sync (c ∷ cs) k = and-both (whole c) _ (first-whole sync c cs k) (unbroken-row sync cs (rest-unbroken sync c cs k))
+
+-- alone, such a stretch is listed whole
+pub stretch-alone : (sync : ℕ) (cs : List Chunk) → unbroken sync cs ≡ true → reading sync (words sync cs) ≡ entries 0 cs
+stretch-alone sync cs k = lists-row sync 0 cs (unbroken-row sync cs k)
+
+pub unbroken-after : (sync : ℕ) (before after : List Chunk) → unbroken sync (before ++ after) ≡ true → unbroken sync after ≡ true
+unbroken-after sync [] after k = k
+unbroken-after sync (c ∷ before) after k = unbroken-after sync before after (rest-unbroken sync c (before ++ after) k)
+
+-- no chunk ends inside the first chunk of the stretch
+pub not-inside : (sync : ℕ) (c : Chunk) (cs : List Chunk) → unbroken sync (c ∷ cs) ≡ true → (n : ℕ) → 0 < n → n < span (c .header)
+    → ends sync n (words sync (c ∷ cs)) ≡ true → ⊥
+unfolding unbroken ends
+not-inside sync c cs k zero some few e = absurd (omega arith)
+not-inside sync c cs k (suc i) some few e =
+    let n : length (c .payload) ≡ size (c .header) = long c (first-whole sync c cs k) in
+    let inner : List ℕ = c .header ∷ (c .payload ++ words sync cs) in
+    let free : headless sync (suc (length (c .payload))) inner ≡ true = and-right (whole c) _ (and-left (whole c && _) _ k) in
+    elim (or-cases (eqb (suc i) (offset sync (c ∷ cs))) (headed sync (drop i inner)) e) as (λ x. ⊥) [
+      | inl z ↦ omega (arith, eqb-true (suc i) (offset sync (c ∷ cs)) z, length-append (c .payload) (words sync cs))
+      | inr z ↦ false≢true (sym (headless-at sync _ inner free i (omega arith)) ∙ z)
+    ]
+
+-- past the first chunk it ends in the rest
+ends-rest : (sync : ℕ) (c : Chunk) (cs : List Chunk) → whole c ≡ true → (k : ℕ)
+    → ends sync (span (c .header) + k) (words sync (c ∷ cs)) ≡ ends sync k (words sync cs)
+ends-rest sync c cs t k =
+    ap (λ (n : ℕ). ends sync n (words sync (c ∷ cs))) (omega (arith, long c t)) ∙ ends-past sync k (sync ∷ c .header ∷ c .payload) (words sync cs)
+
+-- where a chunk ends in the stretch, no words are left of one that is listed when the stretch is read alone
+pub boundary : (sync : ℕ) (cs : List Chunk) → unbroken sync cs ≡ true → (n : ℕ) → ends sync n (words sync cs) ≡ true
+    → leftAt sync 0 n (words sync cs) ≡ 0
+unfolding leftAt
+boundary sync [] k zero e = refl
+boundary sync [] k (suc n) e = refl
+boundary sync (c ∷ cs) k zero e = refl
+boundary sync (c ∷ cs) k (suc i) e =
+    elim (decLt (suc i) (span (c .header))) as (λ x. leftAt sync 0 (suc i) (words sync (c ∷ cs)) ≡ 0) [
+      | yes h ↦ absurd (not-inside sync c cs k (suc i) (omega arith) h e)
+      | no h ↦
+          let m : ℕ = suc i - span (c .header) in
+          let n : suc i ≡ span (c .header) + m = omega arith in
+          let e′ : ends sync m (words sync cs) ≡ true = sym (ends-rest sync c cs (first-whole sync c cs k) m) ∙ (rw n at e) in
+          ap (λ (x : ℕ). leftAt sync 0 x (words sync (c ∷ cs))) n
+          ∙ left-rest sync c cs (unbroken-row sync (c ∷ cs) k) m ∙ boundary sync cs (rest-unbroken sync c cs k) m e′
+    ]

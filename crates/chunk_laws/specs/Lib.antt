@@ -1,0 +1,5 @@
+pub mod Stretch
+pub mod Resync
+pub mod Outside
+pub mod Hidden
+pub mod Written

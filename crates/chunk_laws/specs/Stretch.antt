@@ -1,0 +1,57 @@
+-- Rows of chunks: their words, how they are listed, and what makes a row a clean stretch.
+use Prim.Native.Nat.{ℕ, zero, suc, _+_}
+use mathlib.Core.Bool.{Bool, true, not, _&&_}
+use mathlib.Core.List.{List, [], _∷_, _++_}
+use lib.ListN.{length, drop}
+use lib.Dec.{eqb}
+use Rattle.chunk.specs.declared.Entry.{Entry}
+use Rattle.chunk.specs.Header.{size, span, legal, headed}
+use Rattle.chunk.specs.Reading.{entry}
+
+-- A chunk: its header word, and the words after it.
+pub record Chunk : Type 0 where
+  pub header : ℕ
+  pub payload : List ℕ
+
+-- the words of a row of chunks, end to end: of each the sync word, the header word and the payload
+abbrev pub words : ℕ → List Chunk → List ℕ
+words sync [] = []
+words sync (c ∷ cs) = sync ∷ c .header ∷ (c .payload ++ words sync cs)
+
+-- how many words after the row's start the chunk begins that comes after the chunks `before`
+abbrev pub offset : ℕ → List Chunk → ℕ
+offset sync before = length (words sync before)
+
+-- every chunk of a row as it is listed, the first at the position `at`
+abbrev pub entries : ℕ → List Chunk → List Entry
+entries at [] = []
+entries at (c ∷ cs) = entry at (c .header) ∷ entries (at + span (c .header)) cs
+
+-- a legal header word, and as many words after it as it says
+abbrev pub whole : Chunk → Bool
+whole c = legal (c .header) && eqb (length (c .payload)) (size (c .header))
+
+-- every chunk of a row is whole
+unfoldable pub wholeRow : List Chunk → Bool
+wholeRow [] = true
+wholeRow (c ∷ cs) = whole c && wholeRow cs
+
+-- the word w is none of these
+unfoldable pub lacks : ℕ → List ℕ → Bool
+lacks w [] = true
+lacks w (x ∷ xs) = not (eqb x w) && lacks w xs
+
+-- A clean stretch, as the mission has it: whole chunks, and in each the sync word stands only as its first word.
+unfoldable pub clean : ℕ → List Chunk → Bool
+clean sync [] = true
+clean sync (c ∷ cs) = whole c && lacks sync (c .header ∷ c .payload) && clean sync cs
+
+-- no legal header begins at one of the first n of these words
+unfoldable pub headless : ℕ → ℕ → List ℕ → Bool
+headless sync zero ws = true
+headless sync (suc n) ws = not (headed sync ws) && headless sync n (drop 1 ws)
+
+-- Less is enough: whole chunks, inside none of which a legal header begins, though the sync word may stand there.
+unfoldable pub unbroken : ℕ → List Chunk → Bool
+unbroken sync [] = true
+unbroken sync (c ∷ cs) = whole c && headless sync (suc (length (c .payload))) (c .header ∷ (c .payload ++ words sync cs)) && unbroken sync cs

@@ -1,0 +1,1 @@
+// Laws of chunks and of the reading of a recording; no code.
