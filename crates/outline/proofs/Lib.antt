@@ -1,0 +1,5 @@
+pub mod Longest
+pub mod Rows
+pub mod Going
+pub mod Handing
+pub mod Reply

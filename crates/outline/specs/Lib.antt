@@ -1,0 +1,4 @@
+pub mod Runs
+pub mod Outline
+pub mod Within
+pub mod Examples

@@ -1,0 +1,54 @@
+-- `register::finder::step_from` meets its contract: the chunk that the search found lies within the recording.
+use mathlib.Core.Path.{_≡_, sym, ap, _∙_}
+use Prim.Native.Nat.{ℕ, _+_, _≤_}
+use native.Mathlib.Omega.{arith}
+use lib.ListN.{length}
+use borrow.Author.Needs.{needs}
+use Rattle.chunk.specs.declared.Found.{Found}
+use Rattle.chunk.specs.Reading.{nextFrom}
+use Rattle.chunk.proofs.Steps.{past, stepped}
+use Rattle.register.specs.Finder.{stepTo, stepFrom}
+use Rattle.register.proofs.finder.step_from.Statement.{statement}
+use Rattle.register.proofs.finder.step_from.Tie as tie
+
+next-requires : tie.Need-next-requires
+next-requires c κs = search needs
+
+enum-known-found : tie.Need-enum-known-found
+enum-known-found c = search needs
+
+enum-told : tie.Need-enum-told
+enum-told c = search needs
+
+returns : tie.Need-returns
+unfolding stepFrom stepTo
+returns c = sym (ap stepTo (sym (c .before .before .next .ensures) ∙ c .enum-told .given .1))
+
+-- the chunk that was found
+found : (c : tie.After-known-told)
+    → (let a = c .before .before .before .before .before .args in nextFrom (a .sync) (a .at) (a .recording .now) ≡ Found.Chunk
+    (c .before .found .given .0 .0))
+found c = sym (c .before .before .before .next .ensures) ∙ c .before .found .given .1
+
+within : (c : tie.After-known-told) → past (c .before .found .given .0 .0) ≤ length (c .before .before .before .before .before .args .recording .now)
+within c = let a = c .before .before .before .before .before .args in stepped (a .sync) (a .recording .now) (a .at) (c .before .found .given .0 .0)
+    (found c) .within
+
+add-t10 : tie.Need-add-t10
+add-t10 c = record { fits = omega (arith, within c) }
+
+size-of-requires : tie.Need-size-of-requires
+size-of-requires c κs = search needs
+
+add-t11 : tie.Need-add-t11
+add-t11 c = record { fits = omega (arith, within (c .before .before), c .before .size-of .ensures) }
+
+returns-2 : tie.Need-returns-2
+unfolding stepFrom stepTo
+returns-2 c =
+    let e = c .before .before .before .found .given .0 .0 in
+    let s : e .position .0 + 2 + c .before .size-of .result .0 ≡ past e = omega (arith, c .before .size-of .ensures) in
+    ap (λ (n : ℕ). record { entry = e; end = n }) s ∙ sym (ap stepTo (found (c .before .before)))
+
+pub step-from-spec : {M : Type 1} → statement M
+step-from-spec = tie.close (tie.spec next-requires enum-known-found enum-told returns add-t10 size-of-requires add-t11 returns-2)
