@@ -1,0 +1,130 @@
+-- The judge's reply, from what is found of the unit; and from that the checker's.
+use mathlib.Core.Path.{_≡_, refl, sym, ap, _∙_}
+use mathlib.Core.Bool.{Bool, true, false, cond, not, _&&_}
+use mathlib.Core.List.{List}
+use Prim.Native.Nat.{ℕ, _-_, _<_, _≤_}
+use native.Mathlib.Omega.{arith}
+use lib.Dec.{leb, ltb, eqb}
+use lib.Count.{ones, leadingZeros}
+use lib.ListN.{length}
+use borrow.Author.Tests.{leb-true, le-ltb, lt-ltb, eqb-true}
+use mathlib.Core.Logic.{_⊎_, inl, inr, ⊎-elim}
+use Rattle.base.proofs.Refused.{answer-no, answer-yes}
+use Rattle.base.specs.Refusal.{answer, wrongLength, wrongParity, noRoom}
+use Rattle.parity.specs.declared.Judged.{Judged}
+use Rattle.parity.specs.declared.rows.Sums.{Sums}
+use Rattle.parity.specs.Unit.{Finding, sound, parityBit, dataBit, neither, fiveCases, finding, isNeither, named, refused, notUnit, unitRefusal, judged, checkRefusal, checked}
+use Rattle.parity.specs.Sums.{differences, answerOf}
+use Rattle.parity.proofs.Cases.{found}
+
+-- a length between two limits
+pub between : (a b n : ℕ) → not (leb a n && leb n b) ≡ false → (a ≤ n) × (n ≤ b)
+between a b n e = by-tests (leb a n) (leb n b) refl refl e
+  where
+    by-tests : (s t : Bool) → leb a n ≡ s → leb n b ≡ t → not (s && t) ≡ false → (a ≤ n) × (n ≤ b)
+    by-tests true true p q h = (leb-true a n p, leb-true n b q)
+    by-tests true false p q h = let z : _≡_ {A = ℕ} 0 1 = cc in absurd (omega arith)
+    by-tests false t p q h = let z : _≡_ {A = ℕ} 0 1 = cc in absurd (omega arith)
+
+-- ---- the judge
+
+pub wrong-length : (u : List ℕ) → notUnit (length u) ≡ true → refused wrongLength ≡ judged u
+unfolding judged unitRefusal answer
+wrong-length u h = simp h
+
+pub judgement : (u : List ℕ) → notUnit (length u) ≡ false → answerOf (finding u) (length u - 8) ≡ judged u
+unfolding judged unitRefusal answer
+judgement u h = simp h (by-finding (finding u))
+  where
+    by-finding : (f : Finding) → answerOf f (length u - 8) ≡ answer (cond (isNeither f) wrongParity 0) refused (named f (length u - 8))
+    by-finding sound = refl
+    by-finding (parityBit w b) = refl
+    by-finding (dataBit w b) = refl
+    by-finding neither = refl
+
+-- from the differences
+pub judged-by : (u : List ℕ) (d : Sums) (r : Judged) → notUnit (length u) ≡ false → d ≡ differences u
+    → r ≡ answerOf (fiveCases (ones (d .rows)) (ones (d .columns)) (leadingZeros 64 (d .rows)) (leadingZeros 64 (d .columns)) (length u - 8)) (length u - 8)
+    → r ≡ judged u
+judged-by u d r h p e = e ∙ ap (λ (f : Finding). answerOf f (length u - 8)) (found u d p) ∙ judgement u h
+
+-- ---- the number in a reply
+
+named-refusal : (f : Finding) (k : ℕ) → named f k .refusal ≡ 0
+named-refusal sound k = refl
+named-refusal (parityBit w b) k = refl
+named-refusal (dataBit w b) k = refl
+named-refusal neither k = refl
+
+named-length : (f : Finding) (k : ℕ) → named f k .length .0 ≡ k
+named-length sound k = refl
+named-length (parityBit w b) k = refl
+named-length (dataBit w b) k = refl
+named-length neither k = refl
+
+number-in : (v : ℕ) (f : Finding) (k : ℕ) → answer v refused (named f k) .refusal ≡ v
+unfolding answer
+number-in v f k = by-test (eqb v 0) refl
+  where
+    by-test : (b : Bool) → eqb v 0 ≡ b → cond b (named f k) (refused v) .refusal ≡ v
+    by-test true e = named-refusal f k ∙ sym (eqb-true v 0 e)
+    by-test false e = refl
+
+pub judged-refusal : (u : List ℕ) → judged u .refusal ≡ unitRefusal u
+unfolding judged
+judged-refusal u = number-in (unitRefusal u) (finding u) (length u - 8)
+
+pub checked-refusal : (u : List ℕ) (m : ℕ) → checked u m .refusal ≡ checkRefusal u m
+unfolding checked
+checked-refusal u m = number-in (checkRefusal u m) (finding u) (length u - 8)
+
+-- ---- the checker's reply, from the judge's
+
+-- the room is looked at last
+last-cause : (a b t : Bool) → (cond a wrongLength (cond b wrongParity 0) ≡ 0 → ⊥) ⊎ (t ≡ false)
+    → cond a wrongLength (cond b wrongParity 0) ≡ cond a wrongLength (cond b wrongParity (cond t noRoom 0))
+last-cause true b t h = refl
+last-cause false true t h = refl
+last-cause false false false h = refl
+last-cause false false true (inl h) = absurd (h refl)
+last-cause false false true (inr e) = let z : _≡_ {A = ℕ} 0 1 = cc in absurd (omega arith)
+
+room-cause : (a b t : Bool) → cond a wrongLength (cond b wrongParity 0) ≡ 0 → t ≡ true → cond a wrongLength (cond b wrongParity (cond t noRoom 0)) ≡ noRoom
+room-cause true b t h e = absurd (omega (arith, h))
+room-cause false true t h e = absurd (omega (arith, h))
+room-cause false false true h e = refl
+room-cause false false false h e = let z : _≡_ {A = ℕ} 0 1 = cc in absurd (omega arith)
+
+module _ (u : List ℕ) (m : ℕ) where
+  judged-checked : (unitRefusal u ≡ 0 → ⊥) ⊎ (length u - 8 ≤ m) → judged u ≡ checked u m
+  unfolding judged checked unitRefusal checkRefusal
+  judged-checked h =
+      ap (λ (v : ℕ). answer v refused (named (finding u) (length u - 8)))
+      (last-cause (notUnit (length u)) (isNeither (finding u)) (ltb m (length u - 8)) (⊎-elim inl (λ x. inr (le-ltb m (length u - 8) x)) h))
+
+  judged-length : unitRefusal u ≡ 0 → judged u .length .0 ≡ length u - 8
+  unfolding judged
+  judged-length z = ap (λ (s : Judged). s .length .0) (answer-yes (unitRefusal u) refused (named (finding u) (length u - 8)) z) ∙ named-length (finding u) (length u - 8)
+
+  refused-room : unitRefusal u ≡ 0 → m < length u - 8 → refused noRoom ≡ checked u m
+  unfolding checked unitRefusal checkRefusal
+  refused-room z h =
+      let x = named (finding u) (length u - 8) in
+      let v = room-cause (notUnit (length u)) (isNeither (finding u)) (ltb m (length u - 8)) z (lt-ltb m (length u - 8) h) in
+      sym (ap (λ (n : ℕ). answer n refused x) v ∙ answer-no noRoom refused x (λ y. omega (arith, y)))
+
+  module _ (r : Judged) (e : r ≡ judged u) where
+    number : r .refusal ≡ unitRefusal u
+    number = ap (λ (s : Judged). s .refusal) e ∙ judged-refusal u
+
+    long : r .refusal ≡ 0 → r .length .0 ≡ length u - 8
+    long z = ap (λ (s : Judged). s .length .0) e ∙ judged-length (sym number ∙ z)
+
+    pub as-judged : (r .refusal ≡ 0 → ⊥) → r ≡ checked u m
+    as-judged h = e ∙ judged-checked (inl (λ z. h (number ∙ z)))
+
+    pub no-room : r .refusal ≡ 0 → m < r .length .0 → refused noRoom ≡ checked u m
+    no-room z h = refused-room (sym number ∙ z) (omega (arith, long z))
+
+    pub room-enough : r .refusal ≡ 0 → r .length .0 ≤ m → r ≡ checked u m
+    room-enough z h = e ∙ judged-checked (inr (omega (arith, long z)))

@@ -1,0 +1,14 @@
+-- `parity::rows::low_word` meets its contract.
+use lib.Bits.{and-mask}
+use mir.Facts.{fits-mask}
+use Rattle.parity.proofs.rows.low_word.Statement.{statement}
+use Rattle.parity.proofs.rows.low_word.Tie as tie
+
+cast-result : tie.Need-cast-result
+cast-result c = fits-mask (c .args .x) 16 tt
+
+returns : tie.Need-returns
+returns c = and-mask (c .args .x) 16
+
+pub low-word-spec : {M : Type 1} → statement M
+low-word-spec = tie.close (tie.spec cast-result returns)

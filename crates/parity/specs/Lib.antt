@@ -1,0 +1,4 @@
+pub mod Parity
+pub mod Unit
+pub mod Sums
+pub mod Examples

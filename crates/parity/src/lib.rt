@@ -1,0 +1,167 @@
+// Parity units: written, judged, checked and repaired.
+mod rows;
+
+use crate::rows::Sums;
+use base::Words;
+use base::Written;
+use base::refusal;
+use base::room;
+ghost use mathlib.Core.Path.{_≡_};
+ghost use Prim.Native.Nat.{_-_, _%_, _≤_};
+ghost use lib.ListN.{length};
+ghost use Rattle.parity.specs.Unit.{reply, refused, fiveCases, judged, checked, afterCheck, written, afterWrite};
+ghost use Rattle.parity.specs.Sums.{differences, answerOf};
+
+// What is found of a unit: the case (0 sound, 1 a parity bit was hit, 2 a data bit was hit and is repaired), the parity or data
+// word and the bit that was hit, zeros if sound, and the number of data words.
+pub struct Judged {
+    pub refusal: u8,
+    pub case: u8,
+    pub word: Words,
+    pub bit: u8,
+    pub length: Words,
+}
+
+fn refuse(number: u8) -> Judged
+    ensures { λ r. ⌜ r ≡ refused number ⌝ }
+{
+    Judged {
+        refusal: number,
+        case: 0,
+        word: Words(0),
+        bit: 0,
+        length: Words(0),
+    }
+}
+
+fn accept(case: u8, word: usize, bit: u8, k: usize) -> Judged
+    ensures { λ r. ⌜ r ≡ reply 0 case word bit k ⌝ }
+{
+    Judged {
+        refusal: 0,
+        case,
+        word: Words(word),
+        bit,
+        length: Words(k),
+    }
+}
+
+// A row's or a column's bit in its parity word, and a column's in its data words.
+fn bit_of(place: usize) -> u8
+    ensures { λ r. ⌜ r ≡ 15 - place % 16 ⌝ }
+{
+    (15 - place % 16) as u8
+}
+
+// The five cases, where r rows and c columns differ, `row` and `column` first, in a unit with k data words.
+fn five_cases(r: u32, c: u32, row: usize, column: usize, k: usize) -> Judged
+    requires { ⌜ (row ≤ 64) × (column ≤ 64) ⌝ }
+    ensures { λ j. ⌜ j ≡ answerOf (fiveCases r c row column k) k ⌝ }
+{
+    let word = 4 * row + column / 16;
+    if (r == 0) & (c == 0) {
+        return accept(0, 0, 0, k);
+    }
+    if (r == 1) & (c == 0) {
+        return accept(1, row / 16, bit_of(row), k);
+    }
+    if (r == 0) & (c == 1) {
+        return accept(1, 4 + column / 16, bit_of(column), k);
+    }
+    if (r == 1) & (c == 1) & (word < k) {
+        return accept(2, word, bit_of(column), k);
+    }
+    refuse(refusal::PARITY)
+}
+
+// Which rows and columns have another parity than the unit's parity words say.
+fn differing(unit: &[u16]) -> Sums
+    requires { ⌜ (9 ≤ length (now unit)) × (length (now unit) ≤ 264) ⌝ }
+    ensures { λ r. ⌜ r ≡ differences (now (unit .entry)) ⌝ }
+{
+    let p = rows::parity(&unit[8..]);
+    Sums {
+        rows: rows::bits_from(unit, 0) ^ p.rows,
+        columns: rows::bits_from(unit, 4) ^ p.columns,
+    }
+}
+
+// What stands in a unit, without its data.
+pub fn judge_unit(unit: &[u16]) -> Judged
+    ensures { λ r. ⌜ r ≡ judged (now (unit .entry)) ⌝ }
+{
+    let n = unit.len();
+    if !((9 <= n) & (n <= 264)) {
+        return refuse(refusal::LENGTH);
+    }
+    let d = differing(unit);
+    five_cases(
+        u64::count_ones(d.rows),
+        u64::count_ones(d.columns),
+        u64::leading_zeros(d.rows) as usize,
+        u64::leading_zeros(d.columns) as usize,
+        n - 8,
+    )
+}
+
+// The checker's reply.
+fn look(unit: &[u16], room: usize) -> Judged
+    ensures { λ r. ⌜ r ≡ checked (now (unit .entry)) room ⌝ }
+{
+    let r = judge_unit(unit);
+    if r.refusal != 0 {
+        return r;
+    }
+    if room < r.length.0 {
+        return refuse(refusal::ROOM);
+    }
+    r
+}
+
+// A unit's data to the room, repaired where a data bit was hit.
+pub fn check_unit(unit: &[u16], room: &mut [u16]) -> Judged
+    ensures { λ r. ⌜ r ≡ checked (now (unit .entry)) (length (now (room .entry))) ⌝ }
+    ensures { λ _. ⌜ now (room .exit) ≡ afterCheck (now (unit .entry)) (now (room .entry)) ⌝ }
+{
+    let r = look(unit, room.len());
+    if r.refusal != 0 {
+        return r;
+    }
+    room::put_words(&unit[8..], room, Words(0));
+    if r.case != 2 {
+        return r;
+    }
+    let w = r.word.0;
+    room[w] = room[w] ^ (1u16 << (r.bit as u16));
+    r
+}
+
+// The writer's reply.
+fn plan(data: &[u16], room: usize) -> Written
+    ensures { λ r. ⌜ r ≡ written (length (now («data» .entry))) room ⌝ }
+{
+    let k = data.len();
+    refusal::settle(
+        refusal::cause(
+            refusal::LENGTH,
+            !((1 <= k) & (k <= 256)),
+            refusal::cause(refusal::ROOM, room < 8 + k, 0),
+        ),
+        Words(8 + k),
+    )
+}
+
+// The unit of the data to the room: the parity words, then the data.
+pub fn write_unit(data: &[u16], room: &mut [u16]) -> Written
+    ensures { λ r. ⌜ r ≡ written (length (now («data» .entry))) (length (now (room .entry))) ⌝ }
+    ensures { λ _. ⌜ now (room .exit) ≡ afterWrite (now («data» .entry)) (now (room .entry)) ⌝ }
+{
+    let r = plan(data, room.len());
+    if r.refusal != 0 {
+        return r;
+    }
+    let parity = rows::parity_words(rows::parity(data));
+    room::put_words(&parity, room, Words(0));
+    room::put_words(data, room, Words(8));
+    r
+}
