@@ -1,0 +1,5 @@
+pub mod Answered
+pub mod Parts
+pub mod Sound
+pub mod Wrote
+pub mod RoundTrip

@@ -1,0 +1,40 @@
+-- `health::packet::packet_crc` meets its contract: the CRC of two parts in a row.
+use native.Mathlib.Omega.{arith}
+use lib.ListN.{length-take}
+use borrow.Author.Needs.{needs}
+use Rattle.health.proofs.Parts.{crc-parts}
+use Rattle.health.proofs.packet.packet_crc.Statement.{statement}
+use Rattle.health.proofs.packet.packet_crc.Tie as tie
+
+slice-aggregate-words : tie.Need-slice-aggregate-words
+slice-aggregate-words c = omega (arith, length-take 1 (c .before .before .args .packet .now))
+
+words-requires : tie.Need-words-requires
+words-requires c κs = search needs
+
+sub-words : tie.Need-sub-words
+sub-words c = search needs
+
+part-words-start : tie.Need-part-words-start
+part-words-start c = search needs
+
+part-words-end : tie.Need-part-words-end
+part-words-end c = search needs
+
+words-requires-2 : tie.Need-words-requires-2
+words-requires-2 c κs = search needs
+
+returns : tie.Need-returns
+returns c = crc-parts _ (c .before .before .words .ensures) (c .words2 .ensures)
+
+pub packet-crc-spec : {M : Type 1} → statement M
+packet-crc-spec =
+    tie.close
+    (tie.spec
+    slice-aggregate-words
+    words-requires
+    sub-words
+    part-words-start
+    part-words-end
+    words-requires-2
+    returns)

@@ -1,0 +1,24 @@
+-- Document 01, "Health packets": what the packet reader answers.
+use Prim.Native.Nat.{ℕ}
+use mathlib.Core.Bool.{Bool, not}
+use mathlib.Core.List.{List, [], _∷_}
+use lib.ListN.{length, replicate}
+use lib.Dec.{eqb}
+use Rattle.base.specs.Refusal.{Causes, verdict, answer, wrongLength, wrongCrc, unspecified}
+use Rattle.health.specs.declared.packet.Packet.{Packet}
+use Rattle.health.specs.Packet.{packetType, packetTime, packetWords, crcRight, permittedType}
+
+-- The causes of every reader of a packet p: not of 32 words; another CRC; a type word or field with an unspecified value.
+abbrev pub readerCauses : Bool → List ℕ → Causes
+readerCauses odd p = (wrongLength, not (eqb (length p) 32)) ∷ (wrongCrc, not (crcRight p)) ∷ (unspecified, odd) ∷ []
+
+-- the packet reader takes any sound packet
+abbrev pub packetCauses : List ℕ → Causes
+packetCauses p = readerCauses (not (permittedType (packetType p))) p
+
+abbrev pub packetOf : ℕ → ℕ → ℕ → List ℕ → Packet
+packetOf v t s ws = record { refusal = v; kind = t; time = s; words = ws }
+
+-- type, time and the 29 words of a sound packet
+unfoldable pub readPacket : List ℕ → Packet
+readPacket p = answer (verdict (packetCauses p)) (λ v. packetOf v 0 0 (replicate 29 0)) (packetOf 0 (packetType p) (packetTime p) (packetWords p))

@@ -1,0 +1,2 @@
+// Health packets: judged, read and written.
+pub mod packet;

@@ -1,0 +1,160 @@
+// The packet: 32 words, of which the first three are type, CRC and time.
+use base::Words;
+use base::Written;
+use base::refusal;
+use base::room;
+ghost use mathlib.Core.Path.{_≡_};
+ghost use lib.ListN.{length, take, drop};
+ghost use Rattle.base.specs.Refusal.{verdict};
+ghost use Rattle.health.specs.Packet.{packetCrc, permittedType, soundPacket};
+ghost use Rattle.health.specs.Reading.{readerCauses, packetCauses, readPacket};
+ghost use Rattle.health.specs.Writing.{writableType, writeReply, roomAfter, writtenCrc};
+
+// the words of a packet
+pub const SIZE: usize = 32;
+
+// What the packet reader gives of a sound packet: its type word, its time and the 29 words after these.
+pub struct Packet {
+    pub refusal: u8,
+    pub kind: u16,
+    pub time: u16,
+    pub words: [u16; 29],
+}
+
+// The types that readers take: 1 to 15, and all with low four bits 0, which are spare.
+fn permitted(kind: u16) -> bool
+    ensures { λ r. ⌜ r ≡ permittedType kind ⌝ }
+{
+    (1 <= kind) & (kind <= 15) | (kind % 16 == 0)
+}
+
+// The types that the writer takes.
+fn writable(kind: u16) -> bool
+    ensures { λ r. ⌜ r ≡ writableType kind ⌝ }
+{
+    permitted(kind)
+}
+
+// The CRC over word 0 and words 2 to 31.
+fn packet_crc(packet: &[u16]) -> u16
+    requires { ⌜ length (now packet) ≡ 32 ⌝ }
+    ensures { λ r. ⌜ r ≡ packetCrc (now (packet .entry)) ⌝ }
+{
+    crc::words(crc::words(crc::START, &packet[..1]), &packet[2..])
+}
+
+// The verdict on a packet for a reader; `odd` says that its type or a field of it is none of the reader's.
+pub fn judge(packet: &[u16], odd: bool) -> u8
+    ensures { λ r. ⌜ r ≡ verdict (readerCauses odd (now (packet .entry))) ⌝ }
+{
+    if packet.len() != SIZE {
+        return refusal::LENGTH;
+    }
+    let right = room::word_at(packet, Words(1)) == packet_crc(packet);
+    refusal::cause(
+        refusal::CRC,
+        !right,
+        refusal::cause(refusal::UNSPECIFIED, odd, 0),
+    )
+}
+
+// The packet reader's verdict.
+fn read_verdict(packet: &[u16]) -> u8
+    ensures { λ r. ⌜ r ≡ verdict (packetCauses (now (packet .entry))) ⌝ }
+{
+    judge(packet, !permitted(room::word_at(packet, Words(0))))
+}
+
+// Whether these words are a sound packet.
+pub fn is_sound(packet: &[u16]) -> bool
+    ensures { λ r. ⌜ r ≡ soundPacket (now (packet .entry)) ⌝ }
+{
+    read_verdict(packet) == 0
+}
+
+// Whether a sound packet stands at a place of the words.
+pub fn sound_at(words: &[u16], at: Words) -> bool
+    ensures { λ r. ⌜ r ≡ soundPacket (take 32 (drop (at .0) (now (words .entry)))) ⌝ }
+{
+    let from = at.0;
+    let n = words.len();
+    if n < SIZE {
+        return false;
+    }
+    if n - SIZE < from {
+        return false;
+    }
+    let end = from + SIZE;
+    is_sound(&words[from..end])
+}
+
+// The 29 words after the first three.
+fn words_of(packet: &[u16]) -> [u16; 29]
+    requires { ⌜ length (now packet) ≡ 32 ⌝ }
+    ensures { λ r. ⌜ r ≡ drop 3 (now (packet .entry)) ⌝ }
+{
+    let mut words = [0u16; 29];
+    room::put_words(&packet[3..], &mut words, Words(0));
+    words
+}
+
+// A packet taken apart.
+pub fn read_packet(packet: &[u16]) -> Packet
+    ensures { λ r. ⌜ r ≡ readPacket (now (packet .entry)) ⌝ }
+{
+    let verdict = read_verdict(packet);
+    if verdict != 0 {
+        return Packet {
+            refusal: verdict,
+            kind: 0,
+            time: 0,
+            words: [0; 29],
+        };
+    }
+    Packet {
+        refusal: 0,
+        kind: room::word_at(packet, Words(0)),
+        time: room::word_at(packet, Words(2)),
+        words: words_of(packet),
+    }
+}
+
+// The CRC of a packet of this type, time and words.
+fn crc_of(kind: u16, time: u16, words: &[u16]) -> u16
+    ensures { λ r. ⌜ r ≡ writtenCrc kind time (now (words .entry)) ⌝ }
+{
+    crc::words(crc::words(crc::START, &[kind, time]), words)
+}
+
+// The writer's reply.
+fn plan(kind: u16, words: usize, room: usize) -> Written
+    ensures { λ r. ⌜ r ≡ writeReply kind words room ⌝ }
+{
+    refusal::settle(
+        refusal::cause(
+            refusal::ARGUMENT,
+            !writable(kind),
+            refusal::cause(
+                refusal::LENGTH,
+                words != 29,
+                refusal::cause(refusal::ROOM, room < SIZE, 0),
+            ),
+        ),
+        Words(SIZE),
+    )
+}
+
+// A packet of this type, time and 29 words into lent room.
+pub fn write_packet(kind: u16, time: u16, words: &[u16], room: &mut [u16]) -> Written
+    ensures { λ r. ⌜ r ≡ writeReply kind (length (now (words .entry))) (length (now (room .entry))) ⌝ }
+    ensures { λ _. ⌜ now (room .exit) ≡ roomAfter kind time (now (words .entry)) (now (room .entry)) ⌝ }
+{
+    let reply = plan(kind, words.len(), room.len());
+    if reply.refusal != 0 {
+        return reply;
+    }
+    let head = [kind, crc_of(kind, time, words), time];
+    room::put_words(&head, room, Words(0));
+    room::put_words(words, room, Words(3));
+    reply
+}

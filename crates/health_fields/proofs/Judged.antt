@@ -1,0 +1,29 @@
+-- What a verdict of 0 tells of a packet that a field reader was given. Assumes nothing.
+use mathlib.Core.Path.{_≡_}
+use mathlib.Core.Bool.{not, _&&_}
+use mathlib.Core.List.{List}
+use Prim.Native.Nat.{ℕ, _≤_}
+use native.Mathlib.Omega.{arith}
+use lib.ListN.{length, getD}
+use lib.Dec.{eqb, leb}
+use borrow.Author.Tests.{leb-true}
+use Rattle.base.specs.Refusal.{verdict}
+use Rattle.health.specs.Packet.{packetType}
+use Rattle.health.proofs.Sound.{and-left, and-right, judged-long, judged-own}
+use Rattle.health_fields.specs.Observation.{flagsKnown, regionKnown, isObservation, observationCauses}
+use Rattle.health_fields.specs.Checksums.{checksumCauses}
+use Rattle.health_fields.specs.Upsets.{lastFilled, isUpsets, upsetCauses}
+
+pub checksums-long : (p : List ℕ) {v : ℕ} → v ≡ verdict (checksumCauses p) → v ≡ 0 → length p ≡ 32
+checksums-long p e z = judged-long (not (eqb (packetType p) 8)) p e z
+
+pub upsets-last : (p : List ℕ) {v : ℕ} → v ≡ verdict (upsetCauses p) → v ≡ 0 → lastFilled p ≤ 8
+upsets-last p e z = leb-true (lastFilled p) 8 (and-right (eqb (packetType p) 10) (leb (lastFilled p) 8) (judged-own (isUpsets p) p e z))
+
+pub observation-judged : (p : List ℕ) {v : ℕ} → v ≡ verdict (observationCauses p) → v ≡ 0 → (length p ≡ 32) × (3 ≤ packetType p)
+unfolding isObservation
+observation-judged p e z =
+    let t = packetType p in
+    let own = isObservation t (getD p 6 0) (getD p 7 0) in
+    let four = leb-true 4 t (and-left (leb 4 t) (leb t 6) (and-left (leb 4 t && leb t 6) (flagsKnown (getD p 6 0)) (and-left _ (regionKnown (getD p 7 0)) (judged-own own p e z)))) in
+    (judged-long (not own) p e z, omega (arith, four))

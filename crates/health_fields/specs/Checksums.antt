@@ -1,0 +1,20 @@
+-- Document 01, "Health packets", type 8: the checksums of three cameras with eight pages each.
+use Prim.Native.Nat.{ℕ, _+_, _*_}
+use mathlib.Core.Bool.{not}
+use mathlib.Core.List.{List, [], _∷_}
+use lib.ListN.{take, drop, replicate}
+use lib.Dec.{eqb}
+use Rattle.base.specs.Refusal.{Causes, verdict, answer}
+use Rattle.health.specs.Packet.{packetType}
+use Rattle.health.specs.Reading.{readerCauses}
+
+abbrev pub checksumCauses : List ℕ → Causes
+checksumCauses p = readerCauses (not (eqb (packetType p) 8)) p
+
+-- the eight pages of a camera, from 0: words 3 to 26 are three times eight
+abbrev pub pagesOf : List ℕ → ℕ → List ℕ
+pagesOf p camera = take 8 (drop (3 + 8 * camera) p)
+
+-- a row for each camera; zeros on a refusal
+unfoldable pub readChecksums : List ℕ → List (List ℕ)
+readChecksums p = answer (verdict (checksumCauses p)) (λ v. replicate 3 (replicate 8 0)) (pagesOf p 0 ∷ pagesOf p 1 ∷ pagesOf p 2 ∷ [])

@@ -1,0 +1,4 @@
+pub mod Observation
+pub mod Checksums
+pub mod Upsets
+pub mod Examples

@@ -1,0 +1,57 @@
+-- Document 01, "Health packets": the answer about the last sound packet of a type.
+use Prim.Native.Nat.{ℕ, _%_}
+use mathlib.Core.Bool.{Bool, cond, not, _&&_, _||_}
+use mathlib.Core.List.{List, [], _∷_, _++_}
+use lib.ListN.{length, take, drop}
+use lib.Dec.{leb, ltb, eqb}
+use Rattle.base.specs.Limit.{recordingLimit, healthLimit}
+use Rattle.base.specs.Refusal.{Causes, verdict, answer, wrongArgument, wrongLength, nothingThere}
+use Rattle.health_last.specs.declared.Sought.{Sought}
+use Rattle.health_last.specs.declared.Sought.the-variants.{At, Nowhere}
+use Rattle.health_last.specs.declared.Place.{Place}
+use Rattle.health_last.specs.Packets.{sciencePlaces, healthPlaces, soundOf, lastWhere}
+
+abbrev pub inScience : ℕ → List ℕ → ℕ → Sought
+inScience sync science t = lastWhere (soundOf t science) (sciencePlaces sync science)
+
+abbrev pub inHealth : List ℕ → ℕ → Sought
+inHealth health t = lastWhere (soundOf t health) (healthPlaces health)
+
+abbrev pub place : ℕ → ℕ → ℕ → Place
+place v recording at = record { refusal = v; recording = recording; at = record { 0 = at } }
+
+-- The rule for which packet is shown: the science recording's (1), or, if that holds none, the health recording's (2).
+abbrev pub shown : Sought → Sought → Place
+shown (At p) s = place 0 1 (p .0)
+shown Nowhere (At p) = place 0 2 (p .0)
+shown Nowhere Nowhere = place 0 0 0
+
+-- types 1 to 15 can be asked for
+abbrev pub askedType : ℕ → Bool
+askedType t = leb 1 t && leb t 15
+
+-- a health recording has a multiple of 32 words, at most 32,768
+abbrev pub healthLength : ℕ → Bool
+healthLength n = eqb (n % 32) 0 && leb n healthLimit
+
+-- a type that cannot be asked for; either recording too long, or the health recording no packets back to back
+abbrev pub argumentCauses : ℕ → ℕ → ℕ → Causes
+argumentCauses t n m = (wrongArgument, not (askedType t)) ∷ (wrongLength, ltb recordingLimit n || not (healthLength m)) ∷ []
+
+-- these, and last that neither recording has one
+abbrev pub lastCauses : ℕ → List ℕ → ℕ → List ℕ → Causes
+lastCauses sync science t health =
+    argumentCauses t (length science) (length health) ++ (nothingThere, eqb (shown (inScience sync science t) (inHealth health t) .recording) 0) ∷ []
+
+-- which recording the packet is shown of, and its place there
+unfoldable pub lastPlace : ℕ → List ℕ → ℕ → List ℕ → Place
+lastPlace sync science t health =
+    answer (verdict (lastCauses sync science t health)) (λ v. place v 0 0) (shown (inScience sync science t) (inHealth health t))
+
+-- the 32 words at a place of one of the two; no words where nothing is shown
+unfoldable pub partAt : Place → List ℕ → List ℕ → List ℕ
+partAt s science health =
+    cond (eqb (s .recording) 1) (take 32 (drop (s .at .0) science)) (cond (eqb (s .recording) 2) (take 32 (drop (s .at .0) health)) [])
+
+abbrev pub lastPacket : ℕ → List ℕ → ℕ → List ℕ → List ℕ
+lastPacket sync science t health = partAt (lastPlace sync science t health) science health

@@ -1,0 +1,48 @@
+-- Document 01, "Health packets": where packets stand in the two recordings, and the last sound one of a type.
+use Prim.Native.Nat.{ℕ, zero, suc, _+_, _/_}
+use mathlib.Core.Bool.{Bool, cond, _&&_}
+use mathlib.Core.List.{List, [], _∷_, _++_}
+use lib.ListN.{length, take, drop}
+use lib.Dec.{eqb}
+use Rattle.chunk.specs.declared.Entry.{Entry}
+use Rattle.chunk.specs.Header.{kind, size}
+use Rattle.chunk.specs.Reading.{reading}
+use Rattle.health.specs.Packet.{packetType, soundPacket}
+use Rattle.health_last.specs.declared.Sought.{Sought}
+use Rattle.health_last.specs.declared.Sought.the-variants.{At, Nowhere}
+
+-- the places of n packets back to back, the first at the place `at`
+unfoldable pub packetPlaces : ℕ → ℕ → List ℕ
+packetPlaces zero at = []
+packetPlaces (suc n) at = at ∷ packetPlaces n (at + 32)
+
+-- the packets of a chunk: its payload after the two words of the header, where it is health
+unfoldable pub chunkPlaces : Entry → List ℕ
+chunkPlaces e = cond (eqb (kind (e .header)) 1) (packetPlaces (size (e .header) / 32) (e .position .0 + 2)) []
+
+-- the packets of these chunks, in order
+unfoldable pub placesOf : List Entry → List ℕ
+placesOf [] = []
+placesOf (e ∷ es) = chunkPlaces e ++ placesOf es
+
+-- the packets of a science recording are those in its listed health chunks
+abbrev pub sciencePlaces : ℕ → List ℕ → List ℕ
+sciencePlaces sync ws = placesOf (reading sync ws)
+
+-- a health recording is packets back to back
+abbrev pub healthPlaces : List ℕ → List ℕ
+healthPlaces ws = packetPlaces (length ws / 32) 0
+
+-- a sound packet of the type t stands at the place p
+unfoldable pub soundOf : ℕ → List ℕ → ℕ → Bool
+soundOf t ws p = eqb (packetType (take 32 (drop p ws))) t && soundPacket (take 32 (drop p ws))
+
+-- the later of two, where it is there
+abbrev pub later : Sought → Sought → Sought
+later (At p) s = At p
+later Nowhere s = s
+
+-- the last of these places where the test holds
+unfoldable pub lastWhere : (ℕ → Bool) → List ℕ → Sought
+lastWhere holds [] = Nowhere
+lastWhere holds (p ∷ ps) = later (lastWhere holds ps) (cond (holds p) (At (record { 0 = p })) Nowhere)

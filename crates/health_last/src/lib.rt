@@ -1,0 +1,109 @@
+// The last sound packet of a type: in the listed health chunks of a science recording, or else in a health recording.
+mod seek;
+
+use base::Words;
+use base::limit;
+use base::refusal;
+use health::packet;
+ghost use mathlib.Core.Path.{_≡_};
+ghost use Prim.Native.Nat.{_+_, _≤_};
+ghost use lib.ListN.{length, take, drop};
+ghost use Rattle.base.specs.Refusal.{verdict};
+ghost use Rattle.health_last.specs.Last.{argumentCauses, place, shown, lastPlace, lastPacket};
+
+// The place of a packet that was looked for.
+pub enum Sought {
+    At(Words),
+    Nowhere,
+}
+
+// Where the packet stands: in the science recording (1) or in the health recording (2), at a place of it.
+pub struct Place {
+    pub refusal: u8,
+    pub recording: u8,
+    pub at: Words,
+}
+
+// What the arguments alone refuse.
+fn judge(kind: u16, science: usize, health: usize) -> u8
+    ensures { λ r. ⌜ r ≡ verdict (argumentCauses kind science health) ⌝ }
+{
+    let asked = (1 <= kind) & (kind <= 15);
+    let packets = (health % packet::SIZE == 0) & (health <= limit::HEALTH_RECORDING);
+    refusal::cause(
+        refusal::ARGUMENT,
+        !asked,
+        refusal::cause(refusal::LENGTH, (limit::RECORDING < science) | !packets, 0),
+    )
+}
+
+// The rule for which packet is shown: the science recording's, if it has one.
+fn choose(science: Sought, health: Sought) -> Place
+    ensures { λ r. ⌜ r ≡ shown science health ⌝ }
+{
+    match science {
+        Sought::At(at) => Place {
+            refusal: 0,
+            recording: 1,
+            at,
+        },
+        Sought::Nowhere => match health {
+            Sought::At(at) => Place {
+                refusal: 0,
+                recording: 2,
+                at,
+            },
+            Sought::Nowhere => refused(0),
+        },
+    }
+}
+
+fn refused(number: u8) -> Place
+    ensures { λ r. ⌜ r ≡ place number 0 0 ⌝ }
+{
+    Place {
+        refusal: number,
+        recording: 0,
+        at: Words(0),
+    }
+}
+
+// Where the last sound packet of a type stands: the second call beside `last_packet`, and its number.
+pub fn last_place(science: &[u16], sync: u16, health: &[u16], kind: u16) -> Place
+    ensures { λ r. ⌜ r ≡ lastPlace sync (now (science .entry)) kind (now (health .entry)) ⌝ }
+{
+    let verdict = judge(kind, science.len(), health.len());
+    if verdict != 0 {
+        return refused(verdict);
+    }
+    let in_science = seek::in_science(science, sync, kind);
+    let in_health = seek::in_row(health, kind, 0, health.len() / packet::SIZE);
+    let place = choose(in_science, in_health);
+    if place.recording == 0 {
+        return refused(refusal::NOTHING_THERE);
+    }
+    place
+}
+
+// The 32 words at a place.
+fn packet_at(words: &[u16], from: usize) -> &[u16]
+    requires { ⌜ from + 32 ≤ length (now words) ⌝ }
+    ensures { λ r. ⌜ now r ≡ take 32 (drop from (now (words .entry))) ⌝ }
+{
+    let end = from + packet::SIZE;
+    &words[from..end]
+}
+
+// The last sound packet of a type, as a part of the recording that it stands in; empty where `last_place` refuses.
+pub fn last_packet<'a>(science: &'a [u16], sync: u16, health: &'a [u16], kind: u16) -> &'a [u16]
+    ensures { λ r. ⌜ now r ≡ lastPacket sync (now (science .entry)) kind (now (health .entry)) ⌝ }
+{
+    let place = last_place(science, sync, health, kind);
+    if place.recording == 1 {
+        return packet_at(science, place.at.0);
+    }
+    if place.recording == 2 {
+        return packet_at(health, place.at.0);
+    }
+    &science[..0]
+}

@@ -1,0 +1,84 @@
+// The search for a packet, in a row of packets, in a chunk and in a science recording.
+use crate::Sought;
+use base::Words;
+use base::room;
+use chunk::Found;
+use chunk::header;
+use chunk::search;
+use health::packet;
+ghost use mathlib.Core.Path.{_≡_};
+ghost use Prim.Native.Nat.{_+_, _*_, _≤_};
+ghost use lib.ListN.{length};
+ghost use Rattle.chunk.specs.Header.{span};
+ghost use Rattle.chunk.specs.Reading.{entry};
+ghost use Rattle.health_last.specs.Packets.{packetPlaces, chunkPlaces, soundOf, later, lastWhere};
+ghost use Rattle.health_last.specs.Last.{inScience};
+
+// Whether a sound packet of the type stands at a place. The CRC is computed only where the type is the asked one.
+fn is_of(words: &[u16], kind: u16, at: usize) -> bool
+    ensures { λ r. ⌜ r ≡ soundOf kind (now (words .entry)) at ⌝ }
+{
+    if room::word_at(words, Words(at)) != kind {
+        return false;
+    }
+    packet::sound_at(words, Words(at))
+}
+
+// The last sound packet of the type among `count` packets back to back, from the back.
+pub fn in_row(words: &[u16], kind: u16, from: usize, count: usize) -> Sought
+    requires { ⌜ from + 32 * count ≤ length (now words) ⌝ }
+    ensures { λ r. ⌜ r ≡ lastWhere (soundOf kind (now (words .entry))) (packetPlaces count from) ⌝ }
+{
+    let mut left = count;
+    while 0 < left {
+        left -= 1;
+        let at = from + packet::SIZE * left;
+        if is_of(words, kind, at) {
+            return Sought::At(Words(at));
+        }
+    }
+    Sought::Nowhere
+}
+
+// The last sound packet of the type in a chunk.
+fn in_chunk(words: &[u16], kind: u16, position: usize, header: u16) -> Sought
+    requires { ⌜ position + span header ≤ length (now words) ⌝ }
+    ensures { λ r. ⌜ r ≡ lastWhere (soundOf kind (now (words .entry))) (chunkPlaces (entry position header)) ⌝ }
+{
+    if header::kind_of(header) != 1 {
+        return Sought::Nowhere;
+    }
+    in_row(
+        words,
+        kind,
+        position + header::HEADER,
+        header::size_of(header).0 / packet::SIZE,
+    )
+}
+
+fn latest(found: Sought, before: Sought) -> Sought
+    ensures { λ r. ⌜ r ≡ later found before ⌝ }
+{
+    match found {
+        Sought::At(at) => Sought::At(at),
+        Sought::Nowhere => before,
+    }
+}
+
+// The last sound packet of the type in the listed health chunks.
+pub fn in_science(words: &[u16], sync: u16, kind: u16) -> Sought
+    ensures { λ r. ⌜ r ≡ inScience sync (now (words .entry)) kind ⌝ }
+{
+    let mut last = Sought::Nowhere;
+    let mut at: usize = 0;
+    loop {
+        let found = search::next(words, sync, Words(at));
+        let Found::Chunk(entry) = found else {
+            return last;
+        };
+        let begins = entry.position.0;
+        let header = entry.header;
+        last = latest(in_chunk(words, kind, begins, header), last);
+        at = begins + header::HEADER + header::size_of(header).0;
+    }
+}
