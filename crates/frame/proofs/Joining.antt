@@ -1,0 +1,148 @@
+-- A frame as it is walked: what stands directly after its chunks so far is a question about that place alone, since a chunk that is confirmed there is the
+-- next that is listed, and where none is confirmed the next listed chunk begins later.
+use mathlib.Core.Path.{_≡_, refl, sym, ap, subst, _∙_}
+use mathlib.Core.Bool.{Bool, true, false, cond, _&&_, false≢true}
+use mathlib.Core.List.{List, [], _∷_}
+use Prim.Native.Nat.{ℕ, zero, suc, _+_, _≤_, _<_}
+use native.Mathlib.Omega.{arith}
+use native.Mathlib.Nat.{add-zero, add-assoc}
+use lib.ListN.{length, getD, drop}
+use lib.Dec.{eqb, ltb}
+use borrow.Author.Tests.{eq-eqb, ne-eqb, eqb-true, ltb-true, ltb-false}
+use Rattle.chunk.specs.declared.Entry.{Entry}
+use Rattle.chunk.specs.declared.Found.{Found}
+use Rattle.chunk.specs.declared.Found.the-variants.{Chunk, End}
+use Rattle.chunk.specs.Header.{size, kind, span, confirmed}
+use Rattle.chunk.specs.Reading.{entry, listed, reading, listedWords, nextFrom}
+use Rattle.chunk.proofs.Steps.{past, Next, Last, stepped, ended, found-hit, hit-within, confirmed-end}
+use Rattle.frame.specs.Shape.{continues, whole, joining, frameOf, frameChunks, frameWords, observes, closes}
+
+-- the listed chunks from a place on, where no chunk is in hand
+abbrev pub listedFrom : ℕ → List ℕ → ℕ → List Entry
+listedFrom sync ws at = listed sync at 0 (drop at ws)
+
+module _ (sync : ℕ) (ws : List ℕ) (at : ℕ) where
+  -- a confirmed chunk lies within the words
+  pub confirmed-there : confirmed sync (drop at ws) ≡ true → at < length ws
+  confirmed-there e = by-length (ltb at (length ws)) refl
+    where
+      by-length : (b : Bool) → ltb at (length ws) ≡ b → at < length ws
+      by-length true l = ltb-true at (length ws) l
+      by-length false l = absurd (false≢true (sym (confirmed-end sync at ws (ltb-false at (length ws) l)) ∙ e))
+
+  -- it is the next that is listed
+  pub next-here : confirmed sync (drop at ws) ≡ true → Next sync ws at (entry at (getD ws (suc at) 0))
+  next-here e = stepped sync ws at _ (found-hit sync ws at (confirmed-there e) e)
+
+  -- where none is confirmed, the next listed chunk begins later
+  pub next-later : confirmed sync (drop at ws) ≡ false → (e : Entry) → nextFrom sync at ws ≡ Found.Chunk e → eqb (e .position .0) at ≡ false
+  next-later z e f =
+      ne-eqb (e .position .0) at
+      (λ q. false≢true (sym z ∙ sym (ap (λ (n : ℕ). confirmed sync (drop n ws)) q) ∙ stepped sync ws at e f .confirms))
+
+-- ---- joining
+
+and-false : (a : Bool) → a && false ≡ false
+and-false true = refl
+and-false false = refl
+
+pub and-one : (a : Bool) → a && true ≡ a
+and-one true = refl
+and-one false = refl
+
+-- one listed chunk, by whether it joins
+pub joining-one : (end : ℕ) (all : Bool) (e : Entry) (es : List Entry) (b : Bool) → all && eqb (e .position .0) end && continues (e .header) ≡ b
+    → joining end all (e ∷ es) ≡ cond b (e ∷ joining (end + span (e .header)) (whole (e .header)) es) []
+unfolding joining
+joining-one end all e es true q =
+    ap (λ (b : Bool). elim b as (λ x. List Entry) [ true ↦ e ∷ joining (end + span (e .header)) (whole (e .header)) es | false ↦ [] ]) q
+joining-one end all e es false q =
+    ap (λ (b : Bool). elim b as (λ x. List Entry) [ true ↦ e ∷ joining (end + span (e .header)) (whole (e .header)) es | false ↦ [] ]) q
+
+module _ (sync : ℕ) (ws : List ℕ) (end : ℕ) where
+  -- the continuation that stands at the end joins
+  pub joining-step : (h : ℕ) → h ≡ getD ws (suc end) 0 → confirmed sync (drop end ws) ≡ true → continues h ≡ true
+      → joining end true (listedFrom sync ws end) ≡ entry end h ∷ joining (end + span h) (whole h) (listedFrom sync ws (end + span h))
+  joining-step h q e c =
+      let t : true && eqb end end && continues h ≡ true = rw (eq-eqb end end refl, c) in
+      ap (joining end true) (next-here sync ws end e .lists ∙ ap (λ (x : ℕ). entry end x ∷ listedFrom sync ws (end + span x)) (sym q))
+      ∙ joining-one end true (entry end h) (listedFrom sync ws (end + span h)) true t
+
+  -- nothing else does
+  pub joining-stop : (all : Bool) → all && (confirmed sync (drop end ws) && continues (getD ws (suc end) 0)) ≡ false
+      → joining end all (listedFrom sync ws end) ≡ []
+  unfolding joining
+  joining-stop all n = by-check (confirmed sync (drop end ws)) refl n
+    where
+      by-found : confirmed sync (drop end ws) ≡ false → (f : Found) → nextFrom sync end ws ≡ f → joining end all (listedFrom sync ws end) ≡ []
+      by-found z End f = ap (joining end all) (ended sync ws end f .lists)
+      by-found z (Chunk e) f =
+          let t : all && eqb (e .position .0) end && continues (e .header) ≡ false = rw (next-later sync ws end z e f, and-false all) in
+          ap (joining end all) (stepped sync ws end e f .lists) ∙ joining-one end all e (listedFrom sync ws (past e)) false t
+
+      by-check : (b : Bool) → confirmed sync (drop end ws) ≡ b → all && (b && continues (getD ws (suc end) 0)) ≡ false
+          → joining end all (listedFrom sync ws end) ≡ []
+      by-check false z m = by-found z (nextFrom sync end ws) refl
+      by-check true z m =
+          let h : ℕ = getD ws (suc end) 0 in
+          let t : all && eqb end end && continues h ≡ false = rw (eq-eqb end end refl, and-one all) m in
+          ap (joining end all) (next-here sync ws end z .lists) ∙ joining-one end all (entry end h) (listedFrom sync ws (end + span h)) false t
+
+-- ---- the end
+
+module _ (sync cam : ℕ) (ws : List ℕ) (end : ℕ) where
+  pub closes-at : closes cam end ws (listedFrom sync ws end)
+      ≡ confirmed sync (drop end ws) && eqb (kind (getD ws (suc end) 0)) 1 && observes cam (drop (end + 2) ws)
+  unfolding closes
+  closes-at = by-check (confirmed sync (drop end ws)) refl
+    where
+      by-found : confirmed sync (drop end ws) ≡ false → (f : Found) → nextFrom sync end ws ≡ f → closes cam end ws (listedFrom sync ws end) ≡ false
+      by-found z End f = ap (closes cam end ws) (ended sync ws end f .lists)
+      by-found z (Chunk e) f = rw (stepped sync ws end e f .lists, next-later sync ws end z e f)
+
+      by-check : (b : Bool) → confirmed sync (drop end ws) ≡ b
+          → closes cam end ws (listedFrom sync ws end) ≡ b && eqb (kind (getD ws (suc end) 0)) 1 && observes cam (drop (end + 2) ws)
+      by-check false z = by-found z (nextFrom sync end ws) refl
+      by-check true z = rw (next-here sync ws end z .lists, eq-eqb end end refl)
+
+-- ---- the whole frame
+
+module _ (sync : ℕ) (ws : List ℕ) where
+  -- After the chunks that join, the list goes on at their end; they lie within the words.
+  pub record Rest (end : ℕ) (joined : List Entry) : Type 0 where
+    pub on : drop (length joined) (listedFrom sync ws end) ≡ listedFrom sync ws (end + listedWords joined)
+    pub within : end + listedWords joined ≤ length ws
+
+  rest-stop : (end : ℕ) (all : Bool) → end ≤ length ws → joining end all (listedFrom sync ws end) ≡ [] → Rest end (joining end all (listedFrom sync ws end))
+  unfolding listedWords
+  rest-stop end all l e =
+      rw e (record { on = ap (listedFrom sync ws) (sym (add-zero end)); within = omega arith })
+
+  rest-step : (end : ℕ) → confirmed sync (drop end ws) ≡ true → (h : ℕ) → h ≡ getD ws (suc end) 0 → (js : List Entry) → Rest (end + span h) js
+      → Rest end (entry end h ∷ js)
+  unfolding listedWords
+  rest-step end e h q js r =
+      let n : end + span h + listedWords js ≡ end + (span h + listedWords js) = add-assoc end (span h) (listedWords js) in
+      record {
+        on =
+            ap (drop (suc (length js))) (next-here sync ws end e .lists ∙ ap (λ (x : ℕ). entry end x ∷ listedFrom sync ws (end + span x)) (sym q))
+            ∙ r .on ∙ ap (listedFrom sync ws) n;
+        within = omega (arith, r .within, n);
+      }
+
+  pub rest : (k end : ℕ) (all : Bool) → length ws ≤ end + k → end ≤ length ws → Rest end (joining end all (listedFrom sync ws end))
+  rest zero end all h l =
+      rest-stop end all l (joining-stop sync ws end all (rw (confirmed-end sync end ws (omega arith)) (and-false all)))
+  rest (suc k) end all h l = by-join (λ e a. rest k e a) all (confirmed sync (drop end ws)) refl (continues (getD ws (suc end) 0)) refl
+    where
+      by-join : ((e : ℕ) (a : Bool) → length ws ≤ e + k → e ≤ length ws → Rest e (joining e a (listedFrom sync ws e)))
+          → (all b : Bool) → confirmed sync (drop end ws) ≡ b → (c : Bool) → continues (getD ws (suc end) 0) ≡ c
+          → Rest end (joining end all (listedFrom sync ws end))
+      by-join more false b z c y = rest-stop end false l (joining-stop sync ws end false refl)
+      by-join more true false z c y = rest-stop end true l (joining-stop sync ws end true (rw z))
+      by-join more true true z false y = rest-stop end true l (joining-stop sync ws end true (rw (z, y)))
+      by-join more true true z true y =
+          let w : ℕ = getD ws (suc end) 0 in
+          let b = hit-within sync ws end (confirmed-there sync ws end z) z in
+          subst (Rest end) (sym (joining-step sync ws end w refl z y))
+          (rest-step end z w refl (joining (end + span w) (whole w) (listedFrom sync ws (end + span w))) (more (end + span w) (whole w) (omega arith) (b .0)))

@@ -1,0 +1,161 @@
+-- The walk over a frame's chunks. The invariant: what joins from here on, with what was walked so far, is the whole frame.
+use mathlib.Core.Path.{_≡_, refl, sym, ap, _∙_}
+use mathlib.Core.Bool.{Bool, true, false, _&&_}
+use mathlib.Core.List.{List, [], _∷_}
+use Prim.Native.Nat.{ℕ, zero, suc, _+_, _-_, _*_, _/_, _≤_, _<_}
+use native.Mathlib.Omega.{arith}
+use native.Mathlib.Nat.{zero-add}
+use native.Mathlib.Numerals.{add-one}
+use lib.ListN.{length, getD, take, drop, length-drop}
+use lib.Seq.{getD-drop, drop-drop, take-all}
+use lib.Dec.{eqb, leb}
+use Rattle.chunk.specs.declared.Entry.{Entry}
+use Rattle.chunk.specs.Header.{size, camera, kind, span, imageSize, confirmed}
+use Rattle.chunk.specs.Reading.{entry, listed, reading, listedWords}
+use Rattle.chunk.proofs.Headers.{and-left, and-right}
+use Rattle.chunk.proofs.Steps.{hit-within}
+use Rattle.frame.specs.declared.shape.Reach.{Reach}
+use Rattle.frame.specs.Shape.{starts, continues, whole, joining, frameOf, startsFrame, frameChunks, frameWords, frameCamera, joinsFrame, closes, closesFrame, complete}
+use Rattle.frame.specs.Picture.{unitsOf, dataWords, frameLength}
+use Rattle.frame.specs.Replies.{frame, reachOf, described}
+use Rattle.frame.proofs.Joining.{listedFrom, confirmed-there, next-here, joining-step, joining-stop, closes-at, Rest, rest}
+use Rattle.frame.proofs.UnitWords.{image-size, data-more}
+
+-- a part of the words up to their end
+pub to-end : (n : ℕ) (ws : List ℕ) → take (length ws - n) (drop n ws) ≡ drop n ws
+to-end n ws = take-all (length ws - n) (drop n ws) (omega (arith, length-drop n ws))
+
+-- what joins after the chunk `last`, which ends at `end`
+abbrev pub ahead : ℕ → List ℕ → ℕ → ℕ → List Entry
+ahead sync ws last end = joining end (whole last) (listedFrom sync ws end)
+
+pub record Walked (sync : ℕ) (ws : List ℕ) (last chunks end sum : ℕ) : Type 0 where
+  pub within : end ≤ length ws
+  pub few : chunks ≤ end
+  pub short : sum ≤ end
+  pub count : chunks + length (ahead sync ws last end) ≡ length (frameChunks sync ws)
+  pub words : end + listedWords (ahead sync ws last end) ≡ frameWords sync ws
+  pub units : sum + dataWords (unitsOf ws (ahead sync ws last end)) ≡ frameLength sync ws
+
+module _ (sync : ℕ) (ws : List ℕ) (s : startsFrame sync ws ≡ true) where
+  abbrev first : ℕ
+  first = getD ws 1 0
+
+  begun : confirmed sync ws ≡ true
+  begun = and-left (confirmed sync ws) (starts first) s
+
+  inside : (0 + span first ≤ length ws) × (1 ≤ size first) × (size first ≤ 8184)
+  inside = hit-within sync ws 0 (confirmed-there sync ws 0 begun) begun
+
+  -- two words at the least
+  pub long : 2 < length ws
+  long = omega (arith, inside .0, inside .1)
+
+  -- the frame is its first chunk and what joins after it
+  pub frame-is : frameChunks sync ws ≡ entry 0 first ∷ ahead sync ws first (span first)
+  unfolding frameChunks frameOf
+  frame-is =
+      ap frameOf (next-here sync ws 0 begun .lists)
+      ∙ ap (λ (n : ℕ). entry 0 first ∷ joining (span first) (whole first) (listedFrom sync ws n)) (zero-add (span first))
+
+  image : imageSize (size first) ≡ true
+  image = image-size sync ws begun (and-left (eqb (kind first) 0) (leb 1 (camera first)) (and-right (confirmed sync ws) (starts first) s))
+
+  pub start : (end sum : ℕ) → end ≡ 2 + size first → sum ≡ size first - 8 * ((size first + 263) / 264) → Walked sync ws first 1 end sum
+  unfolding listedWords
+  start end sum e d =
+      let n : end ≡ span first = omega (arith, e) in
+      let l : length (frameChunks sync ws) ≡ suc (length (ahead sync ws first (span first))) = ap length frame-is in
+      let w : frameWords sync ws ≡ span first + listedWords (ahead sync ws first (span first)) = ap listedWords frame-is in
+      let u : frameLength sync ws ≡ size first - 8 * ((size first + 263) / 264) + dataWords (unitsOf ws (ahead sync ws first (span first))) =
+      ap (λ (es : List Entry). dataWords (unitsOf ws es)) frame-is ∙ data-more ws 0 first (ahead sync ws first (span first)) (inside .0) image in
+      rw n record {
+        within = omega (arith, inside .0);
+        few = omega arith;
+        short = omega (arith, d);
+        count = omega (arith, l);
+        words = sym w;
+        units = omega (arith, u, d);
+      }
+
+  module _ (last chunks end sum : ℕ) (k : Walked sync ws last chunks end sum) where
+    -- a continuation that joins lies within the words
+    pub room : whole last && joinsFrame sync (drop end ws) ≡ true → (end + 1 < length ws) × (end + 2 + size (getD ws (end + 1) 0) ≤ length ws)
+    room j =
+        let c : confirmed sync (drop end ws) ≡ true = and-left (confirmed sync (drop end ws)) _ (and-right (whole last) _ j) in
+        let b = hit-within sync ws end (confirmed-there sync ws end c) c in
+        let q : getD ws (suc end) 0 ≡ getD ws (end + 1) 0 = ap (λ (x : ℕ). getD ws x 0) (sym (add-one end)) in
+        (omega (arith, b .0), omega (arith, b .0, ap size q))
+
+    -- a continuation joins
+    pub turn : (w next length′ : ℕ) → w ≡ getD ws (end + 1) 0 → whole last && joinsFrame sync (drop end ws) ≡ true
+        → next ≡ end + (2 + size w) → length′ ≡ sum + (size w - 8 * ((size w + 263) / 264)) → Walked sync ws w (chunks + 1) next length′
+    unfolding listedWords
+    turn w next length′ q j n m =
+        let f : whole last ≡ true = and-left (whole last) _ j in
+        let i : joinsFrame sync (drop end ws) ≡ true = and-right (whole last) _ j in
+        let c : confirmed sync (drop end ws) ≡ true = and-left (confirmed sync (drop end ws)) _ i in
+        let d : getD (drop end ws) 1 0 ≡ w = getD-drop end ws 1 0 ∙ sym q in
+        let y : continues w ≡ true = ap (λ (x : ℕ). continues x) (sym d) ∙ and-right (confirmed sync (drop end ws)) _ i in
+        let h : w ≡ getD ws (suc end) 0 = q ∙ ap (λ (x : ℕ). getD ws x 0) (add-one end) in
+        let b : end + span w ≤ length ws = rw h (hit-within sync ws end (confirmed-there sync ws end c) c .0) in
+        let g : imageSize (size w) ≡ true =
+        rw d at (image-size sync (drop end ws) c (rw d (and-left (eqb (kind w) 0) (eqb (camera w) 0) y))) in
+        let r : List Entry = ahead sync ws w (end + span w) in
+        let e : ahead sync ws last end ≡ entry end w ∷ r =
+        ap (λ (x : Bool). joining end x (listedFrom sync ws end)) f ∙ joining-step sync ws end w h c y in
+        let z : next ≡ end + span w = omega (arith, n) in
+        let u : dataWords (unitsOf ws (ahead sync ws last end)) ≡ size w - 8 * ((size w + 263) / 264) + dataWords (unitsOf ws r) =
+        ap (λ (es : List Entry). dataWords (unitsOf ws es)) e ∙ data-more ws end w r b g in
+        rw z record {
+          within = b;
+          few = omega (arith, k .few);
+          short = omega (arith, k .short, m);
+          count = omega (arith, k .count, ap length e);
+          words = omega (arith, k .words, ap listedWords e);
+          units = omega (arith, k .units, u, m);
+        }
+
+    -- nothing more joins
+    pub done : whole last && joinsFrame sync (drop end ws) ≡ false
+        → record { chunks = chunks; end = end; length = sum } ≡ reachOf sync ws
+    unfolding listedWords unitsOf dataWords
+    done j =
+        let z : ahead sync ws last end ≡ [] = joining-stop sync ws end (whole last) (rw (getD-drop end ws 1 0, add-one) at j) in
+        let a : chunks ≡ length (frameChunks sync ws) = omega (arith, k .count, ap length z) in
+        let b : end ≡ frameWords sync ws = omega (arith, k .words, ap listedWords z) in
+        let c : sum ≡ frameLength sync ws = omega (arith, k .units, ap (λ (es : List Entry). dataWords (unitsOf ws es)) z) in
+        cc
+
+  -- the frame lies within the words
+  pub ends : frameWords sync ws ≤ length ws
+  unfolding listedWords
+  ends =
+      let r : Rest sync ws (span first) (ahead sync ws first (span first)) =
+      rest sync ws (length ws) (span first) (whole first) (omega arith) (omega (arith, inside .0)) in
+      omega (arith, r .within, ap listedWords frame-is)
+
+  -- whether the frame is complete is a question about the place where it ends
+  pub complete-at : complete sync ws ≡ closesFrame sync (frameCamera ws) (drop (frameWords sync ws) ws)
+  unfolding complete listedWords
+  complete-at =
+      let es : List Entry = ahead sync ws first (span first) in
+      let r : Rest sync ws (span first) es = rest sync ws (length ws) (span first) (whole first) (omega arith) (omega (arith, inside .0)) in
+      let w : frameWords sync ws ≡ span first + listedWords es = ap listedWords frame-is in
+      let d : drop (length (frameChunks sync ws)) (reading sync ws) ≡ listedFrom sync ws (frameWords sync ws) =
+      ap (λ (n : ℕ). drop n (reading sync ws)) (ap length frame-is)
+      ∙ ap (drop (suc (length es))) (next-here sync ws 0 begun .lists ∙ ap (λ (n : ℕ). entry 0 first ∷ listedFrom sync ws n) (zero-add (span first)))
+      ∙ r .on ∙ ap (listedFrom sync ws) (sym w) in
+      ap (closes (frameCamera ws) (frameWords sync ws) ws) d ∙ closes-at sync (frameCamera ws) ws (frameWords sync ws)
+      ∙ rw (getD-drop (frameWords sync ws) ws 1 0, add-one, drop-drop 2 (frameWords sync ws) ws)
+
+  -- a frame is described by how far it reaches and what stands at its end
+  pub described-is : (r : Reach) (cam : ℕ) (b : Bool) → r ≡ reachOf sync ws → cam ≡ frameCamera ws
+      → b ≡ closesFrame sync cam (take (length ws - r .end) (drop (r .end) ws)) → frame 0 cam (r .chunks) b (r .length) ≡ described sync ws
+  unfolding described
+  described-is r cam b e f g =
+      let n : r .end ≡ frameWords sync ws = ap (λ (x : Reach). x .end) e in
+      let w : b ≡ complete sync ws =
+      g ∙ ap (closesFrame sync cam) (to-end (r .end) ws ∙ ap (λ (m : ℕ). drop m ws) n)
+      ∙ ap (λ (x : ℕ). closesFrame sync x (drop (frameWords sync ws) ws)) f ∙ sym complete-at in
+      rw (e, f, w)

@@ -1,0 +1,66 @@
+-- `frame::asked::read` meets its contract: where nothing is refused, the frame's data stand in the room.
+use native.Mathlib.Omega.{arith}
+use Rattle.frame.proofs.Asking.{There, read-there, untouched, ready, written}
+use borrow.Author.Needs.{needs}
+use Rattle.frame.proofs.asked.read.Statement.{statement}
+use Rattle.frame.proofs.asked.read.Tie as tie
+
+-- nothing is refused
+module _ (c : tie.Else1) where
+  abbrev a : tie.Start
+  a = c .before .before .before .before .before
+
+  there : There (a .args .sync) (a .args .place .0) (a .args .recording .now)
+  there = read-there (a .args .sync) (a .args .place .0) (a .args .recording .now) (a .args .room .now) _ (c .before .before .look .ensures) (c .if1 .left)
+
+look-requires : tie.Need-look-requires
+look-requires c κs = search needs
+
+returns : tie.Need-returns
+returns c =
+    let a = c .before .before .before .before .before in (
+      c .before .before .look .ensures,
+      untouched (a .args .sync) (a .args .place .0) (a .args .recording .now) (a .args .room .now) _ (c .before .before .look .ensures) (c .if1 .taken),
+    )
+
+mul-data : tie.Need-mul-data
+mul-data c = omega (arith, there c .inside)
+
+sub-data : tie.Need-sub-data
+sub-data c = omega (arith, there c .inside)
+
+part-data-start : tie.Need-part-data-start
+part-data-start c = let i = there c .inside in search needs
+
+part-data-end : tie.Need-part-data-end
+part-data-end c = search needs
+
+data-requires : tie.Need-data-requires
+data-requires c κs =
+    let t = c .before .before in
+    ready (a t .args .sync) (a t .args .place .0) (a t .args .recording .now) (a t .args .room .now) _ (t .before .before .look .ensures) (t .if1 .left)
+
+same-length : tie.Need-same-length
+same-length c = search needs
+
+returns-2 : tie.Need-returns-2
+returns-2 c =
+    let t = c .before .before .before .before .before in (
+      t .before .before .look .ensures,
+      written (a t .args .sync) (a t .args .place .0) (a t .args .recording .now) (a t .args .room .now) _ (t .before .before .look .ensures) (t .if1 .left) _
+          (c .before .before .«data» .ensures),
+    )
+
+pub read-spec : {M : Type 1} → statement M
+read-spec =
+    tie.close
+    (tie.spec
+    look-requires
+    returns
+    mul-data
+    sub-data
+    part-data-start
+    part-data-end
+    data-requires
+    same-length
+    returns-2)

@@ -1,0 +1,127 @@
+-- `frame::pieces::next` meets its contract: from `at` on the next piece is the one that is asked for.
+use mathlib.Core.Path.{_≡_, refl, sym, ap, _∙_}
+use Prim.Native.Nat.{ℕ, _+_, _-_}
+use native.Mathlib.Omega.{arith}
+use lib.ListN.{length}
+use borrow.Author.Needs.{needs}
+use Rattle.chunk.specs.declared.Entry.{Entry}
+use Rattle.chunk.proofs.Steps.{Next, stepped, past}
+use Rattle.frame.specs.declared.Piece.{Piece}
+use Rattle.frame.specs.Pieces.{nextPiece}
+use Rattle.frame.proofs.Stepping.{none, passed, framed, strayed, frame-starts}
+use Rattle.frame.proofs.pieces.next.Statement.{statement}
+use Rattle.frame.proofs.pieces.next.Tie as tie
+
+abbrev Inv-loop : tie.InvT-loop
+Inv-loop words sync at₀ at = nextPiece sync at words ≡ nextPiece sync at₀ words
+
+abbrev μ-loop : tie.MeasureT-loop
+μ-loop words sync at₀ at = length words - at
+
+loop-holds : tie.Need-loop-holds Inv-loop μ-loop
+loop-holds c = refl
+
+next-requires : tie.Need-next-requires Inv-loop μ-loop
+next-requires c κs = search needs
+
+enum-known-found : tie.Need-enum-known-found Inv-loop μ-loop
+enum-known-found c = search needs
+
+module _ (c : tie.After-known-told Inv-loop μ-loop) where
+  abbrev l : tie.At-loop Inv-loop μ-loop
+  l = c .before .before .before .before
+
+  abbrev a : tie.Start Inv-loop μ-loop
+  a = l .before .before
+
+  -- the chunk that was found
+  abbrev e : Entry
+  e = c .before .found .given .0 .0
+
+  step : Next (a .args .sync) (a .args .words .now) (l .loop .at) e
+  step =
+      stepped (a .args .sync) (a .args .words .now) (l .loop .at) e
+      (sym (c .before .before .before .next .ensures) ∙ c .before .found .given .1)
+
+-- the code's sum is the place past it
+ends : (c : tie.After-size-of Inv-loop μ-loop) → e (c .before) .position .0 + 2 + c .size-of .result .0 ≡ past (e (c .before))
+ends c = omega (arith, c .size-of .ensures)
+
+add-end : tie.Need-add-end Inv-loop μ-loop
+add-end c = record { fits = omega (arith, step c .within) }
+
+size-of-requires : tie.Need-size-of-requires Inv-loop μ-loop
+size-of-requires c κs = search needs
+
+add-end-2 : tie.Need-add-end-2 Inv-loop μ-loop
+add-end-2 c = record { fits = omega (arith, step (c .before .before) .within, ends (c .before)) }
+
+kind-of-requires : tie.Need-kind-of-requires Inv-loop μ-loop
+kind-of-requires c κs = search needs
+
+starts-requires : tie.Need-starts-requires Inv-loop μ-loop
+starts-requires c κs = search needs
+
+frame-there-requires : tie.Need-frame-there-requires Inv-loop μ-loop
+frame-there-requires c κs =
+    let k = c .before .before .before .before .before .before in
+    frame-starts (a k .args .sync) (a k .args .words .now) (l k .loop .at) (e k) (step k) (sym (c .before .starts .ensures) ∙ c .if2 .taken)
+
+returns : tie.Need-returns Inv-loop μ-loop
+returns c =
+    let i = c .before .before .before in
+    let k = i .before .before .before .before in
+    c .frame-there .ensures
+    ∙ sym (framed (a k .args .sync) (a k .args .words .now) (l k .loop .at) (e k) (step k) (sym (i .before .kind-of .ensures) ∙ i .if1 .taken) (sym (c .before .before .starts .ensures) ∙ c .before .if2 .taken))
+    ∙ l k .loop .inv
+
+returns-2 : tie.Need-returns-2 Inv-loop μ-loop
+returns-2 c =
+    let i = c .before .before in
+    let k = i .before .before .before .before in
+    ap (λ (n : ℕ). Piece.Stray (e k .position) (record { 0 = n })) (ends (i .before .before .before))
+    ∙ sym (strayed (a k .args .sync) (a k .args .words .now) (l k .loop .at) (e k) (step k) (sym (i .before .kind-of .ensures) ∙ i .if1 .taken) (sym (c .before .starts .ensures) ∙ c .if2 .left))
+    ∙ l k .loop .inv
+
+loop-less : tie.Need-loop-less Inv-loop μ-loop
+loop-less c =
+    let k = c .before .before .before .before in
+    omega (arith, ends (c .before .before .before), step k .ahead, step k .within)
+
+loop-again : tie.Need-loop-again Inv-loop μ-loop
+loop-again c =
+    let k = c .before .before .before .before in
+    ap (λ (n : ℕ). nextPiece (a k .args .sync) n (a k .args .words .now)) (ends (c .before .before .before))
+    ∙ sym (passed (a k .args .sync) (a k .args .words .now) (l k .loop .at) (e k) (step k) (λ z. c .if1 .left (c .before .kind-of .ensures ∙ z)))
+    ∙ l k .loop .inv
+
+enum-told : tie.Need-enum-told Inv-loop μ-loop
+enum-told c = search needs
+
+returns-3 : tie.Need-returns-3 Inv-loop μ-loop
+returns-3 c =
+    let i = c .before .before .before in
+    let s = i .before .before in
+    sym (none (s .args .sync) (s .args .words .now) (i .loop .at) (sym (c .before .before .next .ensures) ∙ c .enum-told .given .1)) ∙ i .loop .inv
+
+pub next-spec : {M : Type 1} → statement M
+next-spec =
+    tie.close
+    (tie.spec
+    Inv-loop
+    μ-loop
+    loop-holds
+    next-requires
+    enum-known-found
+    add-end
+    size-of-requires
+    add-end-2
+    kind-of-requires
+    starts-requires
+    frame-there-requires
+    returns
+    returns-2
+    loop-less
+    loop-again
+    enum-told
+    returns-3)

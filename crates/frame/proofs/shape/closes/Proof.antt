@@ -1,0 +1,87 @@
+-- `frame::shape::closes` meets its contract: the four tests in another order.
+use mathlib.Core.Path.{_≡_, refl, sym, ap, ap₂, _∙_}
+use mathlib.Core.Bool.{Bool, true, false, not, _&&_, true≢false}
+use Prim.Native.Nat.{ℕ, _+_}
+use lib.ListN.{getD, take, drop}
+use lib.Seq.{getD-drop}
+use lib.Dec.{eqb}
+use Rattle.chunk.specs.Header.{kind, confirmed}
+use Rattle.health.specs.Packet.{soundPacket, packetType}
+use borrow.Author.Needs.{needs}
+use Rattle.frame.proofs.shape.closes.Statement.{statement}
+use Rattle.frame.proofs.shape.closes.Tie as tie
+
+-- of the tests c, k, s and t, the code makes k and t first
+refused : (c k s t : Bool) → not (k && t) ≡ true → false ≡ c && k && (s && t)
+refused false k s t e = refl
+refused true false s t e = refl
+refused true true false t e = refl
+refused true true true false e = refl
+refused true true true true e = e
+
+left : (c k s t : Bool) → not (k && t) ≡ false → c && s ≡ c && k && (s && t)
+left false k s t e = refl
+left true true false t e = refl
+left true true true true e = refl
+left true true true false e = e
+left true false s t e = absurd (true≢false e)
+
+-- what they say of the words
+module _ (c : tie.After-word-at2) where
+  abbrev a : tie.Start
+  a = c .before .before .before .before
+
+  looked : eqb (c .before .kind-of .result) 1 && eqb (c .word-at2 .result) (3 + a .args .camera)
+      ≡ eqb (kind (getD (a .args .words .now) 1 0)) 1 && eqb (packetType (drop 2 (a .args .words .now))) (3 + a .args .camera)
+  looked =
+      ap₂ (λ (x y : ℕ). eqb x 1 && eqb y (3 + a .args .camera)) (c .before .kind-of .ensures ∙ ap kind (c .before .before .word-at .ensures))
+      (c .word-at2 .ensures ∙ sym (getD-drop 2 (a .args .words .now) 0 0))
+
+word-at-requires : tie.Need-word-at-requires
+word-at-requires c κs = search needs
+
+kind-of-requires : tie.Need-kind-of-requires
+kind-of-requires c κs = search needs
+
+word-at-requires-2 : tie.Need-word-at-requires-2
+word-at-requires-2 c κs = search needs
+
+cast-observed : tie.Need-cast-observed
+cast-observed c = search needs
+
+add-observed : tie.Need-add-observed
+add-observed c = search needs
+
+returns : tie.Need-returns
+returns c =
+    let a = c .before .before .before .before .before .args in
+    refused (confirmed (a .sync) (a .words .now)) _ (soundPacket (take 32 (drop 2 (a .words .now)))) _
+    (ap not (sym (looked (c .before))) ∙ c .if1 .taken)
+
+confirmed-requires : tie.Need-confirmed-requires
+confirmed-requires c κs = search needs
+
+sound-at-requires : tie.Need-sound-at-requires
+sound-at-requires c κs = search needs
+
+returns-2 : tie.Need-returns-2
+returns-2 c =
+    let t = c .before .before .before in
+    let w = a t .args .words .now in
+    ap₂ _&&_ (c .before .confirmed .ensures) (c .sound-at .ensures)
+    ∙ left (confirmed (a t .args .sync) w) (eqb (kind (getD w 1 0)) 1) (soundPacket (take 32 (drop 2 w))) (eqb (packetType (drop 2 w)) (3 + a t .args .camera))
+    (ap not (sym (looked t)) ∙ c .before .before .if1 .left)
+
+pub closes-spec : {M : Type 1} → statement M
+closes-spec =
+    tie.close
+    (tie.spec
+    word-at-requires
+    kind-of-requires
+    word-at-requires-2
+    cast-observed
+    add-observed
+    returns
+    confirmed-requires
+    sound-at-requires
+    returns-2)

@@ -1,0 +1,54 @@
+-- `frame::shape::describe` meets its contract: whether a frame is complete is a question about the place where it ends.
+use mathlib.Core.Path.{_≡_, ap}
+use Prim.Native.Nat.{_≤_}
+use native.Mathlib.Omega.{arith}
+use lib.ListN.{length}
+use Rattle.frame.specs.declared.shape.Reach.{Reach}
+use Rattle.frame.specs.Shape.{frameWords}
+use Rattle.frame.proofs.Walking.{long, ends, described-is}
+use borrow.Author.Needs.{needs}
+use Rattle.frame.proofs.shape.describe.Statement.{statement}
+use Rattle.frame.proofs.shape.describe.Tie as tie
+
+shared-slice-read-camera-of : tie.Need-shared-slice-read-camera-of
+shared-slice-read-camera-of c = let l = long _ _ (c .before .before .pre .0) in omega arith
+
+camera-of-requires : tie.Need-camera-of-requires
+camera-of-requires c κs = search needs
+
+module _ (c : tie.Start) where
+  within : c .args .reach .end ≤ length (c .args .words .now)
+  within = let e : c .args .reach .end ≡ frameWords (c .args .sync) (c .args .words .now) = ap (λ (r : Reach). r .end) (c .pre .1) in omega (arith, ends _ _ (c .pre .0))
+
+mul-closes : tie.Need-mul-closes
+mul-closes c = omega (arith, within (c .before .before .before))
+
+sub-closes : tie.Need-sub-closes
+sub-closes c = within (c .before .before .before)
+
+part-closes-start : tie.Need-part-closes-start
+part-closes-start c = let w = within (c .before .before .before) in search needs
+
+part-closes-end : tie.Need-part-closes-end
+part-closes-end c = search needs
+
+closes-requires : tie.Need-closes-requires
+closes-requires c κs = search needs
+
+returns : tie.Need-returns
+returns c =
+    let a = c .before .before .before .before .before in
+    described-is (a .args .sync) (a .args .words .now) (a .pre .0) _ _ _ (a .pre .1) (c .before .before .camera-of .ensures) (c .closes .ensures)
+
+pub describe-spec : {M : Type 1} → statement M
+describe-spec =
+    tie.close
+    (tie.spec
+    shared-slice-read-camera-of
+    camera-of-requires
+    mul-closes
+    sub-closes
+    part-closes-start
+    part-closes-end
+    closes-requires
+    returns)

@@ -1,0 +1,4 @@
+pub mod Shape
+pub mod Picture
+pub mod Replies
+pub mod Pieces

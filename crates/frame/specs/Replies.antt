@@ -1,0 +1,64 @@
+-- Document 01, "Frames": what the calls for an asked frame answer.
+use Prim.Native.Nat.{ℕ}
+use mathlib.Core.Bool.{Bool, false, not, _&&_}
+use mathlib.Core.List.{List, [], _∷_}
+use lib.ListN.{length, drop, getD}
+use lib.Dec.{ltb}
+use Rattle.base.specs.Refusal.{Causes, verdict, answer, wrongLength, nothingThere, frameCut, wrongParity, noRoom}
+use Rattle.base.specs.Room.{put}
+use Rattle.base.specs.Limit.{recordingLimit}
+use Rattle.chunk.specs.Reading.{listedAt}
+use Rattle.frame.specs.declared.Frame.{Frame}
+use Rattle.frame.specs.declared.shape.Reach.{Reach}
+use Rattle.frame.specs.Shape.{starts, frameChunks, frameWords, frameCamera, complete}
+use Rattle.frame.specs.Picture.{frameUnits, frameLength, frameData, anyDamaged}
+
+abbrev pub frame : ℕ → ℕ → ℕ → Bool → ℕ → Frame
+frame v cam n whole len = record { refusal = v; camera = cam; chunks = n; complete = whole; length = record { 0 = len } }
+
+abbrev pub refused : ℕ → Frame
+refused v = frame v 0 0 false 0
+
+-- how far the frame at the front of these words reaches: its chunks, its words and its data words
+abbrev pub reachOf : ℕ → List ℕ → Reach
+reachOf sync ws = record { chunks = length (frameChunks sync ws); end = frameWords sync ws; length = frameLength sync ws }
+
+-- the frame at the front of these words
+unfoldable pub described : ℕ → List ℕ → Frame
+described sync ws = frame 0 (frameCamera ws) (length (frameChunks sync ws)) (complete sync ws) (frameLength sync ws)
+
+abbrev pub tooLong : List ℕ → Bool
+tooLong ws = ltb recordingLimit (length ws)
+
+-- no listed chunk that starts a frame stands at the place
+abbrev pub noFrame : ℕ → ℕ → List ℕ → Bool
+noFrame sync p ws = not (listedAt sync p ws && starts (getD (drop p ws) 1 0))
+
+-- what a frame is
+abbrev pub atCauses : ℕ → ℕ → List ℕ → Causes
+atCauses sync p ws = (wrongLength, tooLong ws) ∷ (nothingThere, noFrame sync p ws) ∷ []
+
+unfoldable pub frameAt : ℕ → ℕ → List ℕ → Frame
+frameAt sync p ws = answer (verdict (atCauses sync p ws)) refused (described sync (drop p ws))
+
+-- whether its data can be had: it is complete, and no unit of it is refused
+abbrev pub judgeCauses : ℕ → ℕ → List ℕ → Causes
+judgeCauses sync p ws =
+    (wrongLength, tooLong ws) ∷ (nothingThere, noFrame sync p ws) ∷ (frameCut, not (complete sync (drop p ws)))
+    ∷ (wrongParity, anyDamaged (frameUnits sync (drop p ws))) ∷ []
+
+unfoldable pub judged : ℕ → ℕ → List ℕ → Frame
+judged sync p ws = answer (verdict (judgeCauses sync p ws)) refused (described sync (drop p ws))
+
+-- its data, in a room of m words
+abbrev pub readCauses : ℕ → ℕ → List ℕ → ℕ → Causes
+readCauses sync p ws m =
+    (wrongLength, tooLong ws) ∷ (nothingThere, noFrame sync p ws) ∷ (frameCut, not (complete sync (drop p ws)))
+    ∷ (wrongParity, anyDamaged (frameUnits sync (drop p ws))) ∷ (noRoom, ltb m (frameLength sync (drop p ws))) ∷ []
+
+unfoldable pub readReply : ℕ → ℕ → List ℕ → ℕ → Frame
+readReply sync p ws m = answer (verdict (readCauses sync p ws m)) refused (described sync (drop p ws))
+
+-- the room after the call: the joined data at its front and every other word as it was
+unfoldable pub afterRead : ℕ → ℕ → List ℕ → List ℕ → List ℕ
+afterRead sync p ws room = answer (verdict (readCauses sync p ws (length room))) (λ v. room) (put (frameData sync (drop p ws)) 0 room)

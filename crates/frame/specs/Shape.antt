@@ -1,0 +1,75 @@
+-- Document 01, "Frames": which chunks make a frame, and when it is complete. All of it is said of the words from the frame's first word on, so a
+-- position here counts from there, and nothing before a frame can change it.
+use Prim.Native.Nat.{ℕ, suc, _+_, _%_}
+use mathlib.Core.Bool.{Bool, true, false, _&&_}
+use mathlib.Core.List.{List, [], _∷_}
+use lib.ListN.{length, getD, take, drop}
+use lib.Dec.{leb, eqb}
+use Rattle.chunk.specs.declared.Entry.{Entry}
+use Rattle.chunk.specs.Header.{size, camera, kind, span, confirmed}
+use Rattle.chunk.specs.Reading.{reading, listedWords}
+use Rattle.health.specs.Packet.{soundPacket, packetType}
+
+-- an image chunk with camera 1 to 3 starts a frame
+abbrev pub starts : ℕ → Bool
+starts h = eqb (kind h) 0 && leb 1 (camera h)
+
+-- an image chunk with camera 00 is a continuation
+abbrev pub continues : ℕ → Bool
+continues h = eqb (kind h) 0 && eqb (camera h) 0
+
+-- a chunk whose size is a multiple of 264
+abbrev pub whole : ℕ → Bool
+whole h = eqb (size h % 264) 0
+
+-- Each directly following continuation joins the frame while every chunk so far is a multiple of 264: `end` is where the last of these chunks ends,
+-- `all` says that every one of them is such a multiple.
+unfoldable pub joining : ℕ → Bool → List Entry → List Entry
+joining end all [] = []
+joining end all (e ∷ es) =
+    elim (all && eqb (e .position .0) end && continues (e .header)) [
+      | true ↦ e ∷ joining (end + span (e .header)) (whole (e .header)) es
+      | false ↦ []
+    ]
+
+-- of the listed chunks, the first of which starts a frame, those that make the frame
+unfoldable pub frameOf : List Entry → List Entry
+frameOf [] = []
+frameOf (e ∷ es) = e ∷ joining (span (e .header)) (whole (e .header)) es
+
+-- a frame starts at the front of these words
+abbrev pub startsFrame : ℕ → List ℕ → Bool
+startsFrame sync ws = confirmed sync ws && starts (getD ws 1 0)
+
+-- a continuation stands at the front of these words
+abbrev pub joinsFrame : ℕ → List ℕ → Bool
+joinsFrame sync ws = confirmed sync ws && continues (getD ws 1 0)
+
+-- the chunks of the frame at the front of these words
+unfoldable pub frameChunks : ℕ → List ℕ → List Entry
+frameChunks sync ws = frameOf (reading sync ws)
+
+-- its words, end to end
+abbrev pub frameWords : ℕ → List ℕ → ℕ
+frameWords sync ws = listedWords (frameChunks sync ws)
+
+-- its camera
+abbrev pub frameCamera : List ℕ → ℕ
+frameCamera ws = camera (getD ws 1 0)
+
+-- the packet at the front of these words is sound and of type 3 plus the camera
+abbrev pub observes : ℕ → List ℕ → Bool
+observes cam ws = soundPacket (take 32 ws) && eqb (packetType ws) (3 + cam)
+
+-- the next listed chunk after a frame that ends at `end` follows with no skipped word, is health, and its first packet observes the frame's camera
+unfoldable pub closes : ℕ → ℕ → List ℕ → List Entry → Bool
+closes cam end ws [] = false
+closes cam end ws (e ∷ es) = eqb (e .position .0) end && eqb (kind (e .header)) 1 && observes cam (drop (end + 2) ws)
+
+-- a health chunk stands at the front of these words, and its first packet observes the camera
+abbrev pub closesFrame : ℕ → ℕ → List ℕ → Bool
+closesFrame sync cam ws = confirmed sync ws && eqb (kind (getD ws 1 0)) 1 && observes cam (drop 2 ws)
+
+-- complete, else cut
+unfoldable pub complete : ℕ → List ℕ → Bool
+complete sync ws = closes (frameCamera ws) (frameWords sync ws) ws (drop (length (frameChunks sync ws)) (reading sync ws))

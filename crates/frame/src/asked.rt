@@ -1,0 +1,102 @@
+// An asked frame: what it is, whether its data can be had, and its data. Each call starts from the one before it.
+use crate::Frame;
+use crate::picture;
+use crate::shape;
+use base::Words;
+use base::limit;
+use base::refusal;
+use chunk::reading;
+ghost use mathlib.Core.Path.{_≡_};
+ghost use lib.ListN.{length};
+ghost use Rattle.base.specs.Refusal.{verdict};
+ghost use Rattle.frame.specs.Replies.{refused, atCauses, frameAt, judged, readReply, afterRead};
+
+fn refuse(number: u8) -> Frame
+    ensures { λ r. ⌜ r ≡ refused number ⌝ }
+{
+    Frame {
+        refusal: number,
+        camera: 0,
+        chunks: 0,
+        complete: false,
+        length: Words(0),
+    }
+}
+
+// The refusal number for a place of a recording.
+fn find(recording: &[u16], sync: u16, place: Words) -> u8
+    ensures { λ r. ⌜ r ≡ verdict (atCauses sync (place .0) (now (recording .entry))) ⌝ }
+{
+    if limit::RECORDING < recording.len() {
+        return refusal::LENGTH;
+    }
+    if !reading::is_listed(recording, sync, place) {
+        return refusal::NOTHING_THERE;
+    }
+    let begins = place.0;
+    refusal::cause(
+        refusal::NOTHING_THERE,
+        !shape::starts(recording[begins + 1]),
+        0,
+    )
+}
+
+// What the frame at a place is, complete or cut.
+pub fn at(recording: &[u16], sync: u16, place: Words) -> Frame
+    ensures { λ r. ⌜ r ≡ frameAt sync (place .0) (now (recording .entry)) ⌝ }
+{
+    let verdict = find(recording, sync, place);
+    if verdict != 0 {
+        return refuse(verdict);
+    }
+    let from = place.0;
+    let words = &recording[from..];
+    let reach = shape::measure(words, sync);
+    shape::describe(words, sync, reach)
+}
+
+// Whether the frame's data can be had: it is complete, and no unit of it is refused.
+pub fn judge(recording: &[u16], sync: u16, place: Words) -> Frame
+    ensures { λ r. ⌜ r ≡ judged sync (place .0) (now (recording .entry)) ⌝ }
+{
+    let frame = at(recording, sync, place);
+    if frame.refusal != 0 {
+        return frame;
+    }
+    if !frame.complete {
+        return refuse(refusal::FRAME_CUT);
+    }
+    let begins = place.0;
+    if picture::damaged(&recording[begins..], sync) {
+        return refuse(refusal::PARITY);
+    }
+    frame
+}
+
+// The reader's reply, for a room of so many words.
+fn look(recording: &[u16], sync: u16, place: Words, room: usize) -> Frame
+    ensures { λ r. ⌜ r ≡ readReply sync (place .0) (now (recording .entry)) room ⌝ }
+{
+    let frame = judge(recording, sync, place);
+    if frame.refusal != 0 {
+        return frame;
+    }
+    if room < frame.length.0 {
+        return refuse(refusal::ROOM);
+    }
+    frame
+}
+
+// The frame's data to the room.
+pub fn read(recording: &[u16], sync: u16, place: Words, room: &mut [u16]) -> Frame
+    ensures { λ r. ⌜ r ≡ readReply sync (place .0) (now (recording .entry)) (length (now (room .entry))) ⌝ }
+    ensures { λ _. ⌜ now (room .exit) ≡ afterRead sync (place .0) (now (recording .entry)) (now (room .entry)) ⌝ }
+{
+    let frame = look(recording, sync, place, room.len());
+    if frame.refusal != 0 {
+        return frame;
+    }
+    let start = place.0;
+    picture::data(&recording[start..], sync, room);
+    frame
+}

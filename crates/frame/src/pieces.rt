@@ -1,0 +1,50 @@
+// Going through a recording, a frame or a stray at a time.
+use crate::Piece;
+use crate::shape;
+use base::Words;
+use chunk::Found;
+use chunk::header;
+use chunk::search;
+ghost use mathlib.Core.Path.{_≡_};
+ghost use mathlib.Core.Bool.{true};
+ghost use lib.ListN.{drop};
+ghost use Rattle.frame.specs.Shape.{startsFrame};
+ghost use Rattle.frame.specs.Pieces.{frameThere, nextPiece};
+
+// The frame that starts at a place, and the place where it ends.
+fn frame_there(words: &[u16], sync: u16, at: usize) -> Piece
+    requires { ⌜ startsFrame sync (drop at (now words)) ≡ true ⌝ }
+    ensures { λ r. ⌜ r ≡ frameThere sync (now (words .entry)) at ⌝ }
+{
+    let from = &words[at..];
+    let reach = shape::measure(from, sync);
+    let frame = shape::describe(from, sync, reach);
+    Piece::Whole(Words(at), frame, Words(at + reach.end))
+}
+
+// The next frame or stray from a place on, where no frame is in hand: health chunks are passed. Going on from the place that it gives, a
+// program goes through a whole recording in one pass.
+pub fn next(words: &[u16], sync: u16, from: Words) -> Piece
+    ensures { λ r. ⌜ r ≡ nextPiece sync (from .0) (now (words .entry)) ⌝ }
+{
+    let mut at = from.0;
+    loop {
+        let found = search::next(words, sync, Words(at));
+        match found {
+            Found::Chunk(entry) => {
+                let begins = entry.position.0;
+                let end = begins + shape::HEADER + header::size_of(entry.header).0;
+                if header::kind_of(entry.header) == 0 {
+                    if shape::starts(entry.header) {
+                        return frame_there(words, sync, begins);
+                    }
+                    return Piece::Stray(Words(begins), Words(end));
+                }
+                at = end;
+            }
+            Found::End => {
+                return Piece::End;
+            }
+        }
+    }
+}

@@ -1,0 +1,129 @@
+// The shape of a frame, walked from its first word on: every place here counts from there.
+use crate::Frame;
+use base::Words;
+use base::room;
+use chunk::Check;
+use chunk::header;
+use health::packet;
+ghost use mathlib.Core.Path.{_≡_};
+ghost use mathlib.Core.Bool.{true};
+ghost use Prim.Native.Nat.{_+_, _-_, _*_, _/_};
+ghost use Rattle.chunk.specs.Header.{size, confirmed};
+ghost use Rattle.frame.specs.Shape.{starts, continues, whole, startsFrame, joinsFrame, closesFrame};
+ghost use Rattle.frame.specs.Replies.{described, reachOf};
+
+// the words of a whole unit, and its parity words
+pub const UNIT: usize = 264;
+
+const PARITY: usize = 8;
+
+// the words of the header of a chunk
+pub const HEADER: usize = 2;
+
+// How far a frame reaches: its chunks, its words and its data words.
+pub struct Reach {
+    pub chunks: usize,
+    pub end: usize,
+    pub length: usize,
+}
+
+pub fn starts(header: u16) -> bool
+    ensures { λ r. ⌜ r ≡ starts header ⌝ }
+{
+    (header::kind_of(header) == 0) & (1 <= header::camera_of(header))
+}
+
+pub fn continues(header: u16) -> bool
+    ensures { λ r. ⌜ r ≡ continues header ⌝ }
+{
+    (header::kind_of(header) == 0) & (header::camera_of(header) == 0)
+}
+
+fn whole(header: u16) -> bool
+    ensures { λ r. ⌜ r ≡ whole header ⌝ }
+{
+    header::size_of(header).0 % UNIT == 0
+}
+
+// How many units a payload of n words has.
+pub fn units_of(n: usize) -> usize
+    ensures { λ r. ⌜ r ≡ (n + 263) / 264 ⌝ }
+{
+    n / UNIT + (n % UNIT + (UNIT - 1)) / UNIT
+}
+
+// The data words of a chunk.
+fn data_of(header: u16) -> usize
+    ensures { λ r. ⌜ r ≡ size header - 8 * ((size header + 263) / 264) ⌝ }
+{
+    let n = header::size_of(header).0;
+    let parity = PARITY * units_of(n);
+    if n < parity { 0 } else { n - parity }
+}
+
+fn confirmed(words: &[u16], sync: u16) -> bool
+    ensures { λ r. ⌜ r ≡ confirmed sync (now (words .entry)) ⌝ }
+{
+    let here = header::check(words, sync, Words(0));
+    match here {
+        Check::Confirmed => true,
+        Check::NotAChunk => false,
+    }
+}
+
+// Whether a continuation stands at the front of these words.
+fn joins(words: &[u16], sync: u16) -> bool
+    ensures { λ r. ⌜ r ≡ joinsFrame sync (now (words .entry)) ⌝ }
+{
+    confirmed(words, sync) & continues(room::word_at(words, Words(1)))
+}
+
+// The chunks of the frame at the front of these words.
+pub fn measure(words: &[u16], sync: u16) -> Reach
+    requires { ⌜ startsFrame sync (now words) ≡ true ⌝ }
+    ensures { λ r. ⌜ r ≡ reachOf sync (now (words .entry)) ⌝ }
+{
+    let mut last = words[1];
+    let mut chunks = 1;
+    let mut end = HEADER + header::size_of(last).0;
+    let mut length = data_of(last);
+    while whole(last) & joins(&words[end..], sync) {
+        last = words[end + 1];
+        chunks += 1;
+        end += HEADER + header::size_of(last).0;
+        length += data_of(last);
+    }
+    Reach {
+        chunks,
+        end,
+        length,
+    }
+}
+
+// Whether a health chunk stands at the front of these words whose first packet is sound and of the camera's type: the type is looked at first.
+fn closes(words: &[u16], sync: u16, camera: u16) -> bool
+    ensures { λ r. ⌜ r ≡ closesFrame sync camera (now (words .entry)) ⌝ }
+{
+    let health = header::kind_of(room::word_at(words, Words(1))) == 1;
+    let observed = room::word_at(words, Words(2)) as u32 == 3 + camera as u32;
+    if !(health & observed) {
+        return false;
+    }
+    confirmed(words, sync) & packet::sound_at(words, Words(HEADER))
+}
+
+// The frame at the front of these words, which reaches so far.
+pub fn describe(words: &[u16], sync: u16, reach: Reach) -> Frame
+    requires { ⌜ (startsFrame sync (now words) ≡ true) × (reach ≡ reachOf sync (now words)) ⌝ }
+    ensures { λ r. ⌜ r ≡ described sync (now (words .entry)) ⌝ }
+{
+    let camera = header::camera_of(words[1]);
+    let end = reach.end;
+    Frame {
+        refusal: 0,
+        camera,
+        chunks: reach.chunks,
+        complete: closes(&words[end..], sync, camera),
+        length: Words(reach.length),
+    }
+}

@@ -1,0 +1,237 @@
+-- A frame's chunks stand end to end, by the rule that joins them, and each is confirmed where it stands. So the words of the frame are a row of whole
+-- chunks, which is listed whole when it is read alone.
+use mathlib.Core.Path.{_≡_, refl, sym, ap, ap₂, subst, _∙_}
+use mathlib.Core.Bool.{Bool, true, false, _&&_, false≢true}
+use mathlib.Core.List.{List, [], _∷_, _++_}
+use mathlib.Core.Logic.{inl, inr}
+use Prim.Native.Nat.{ℕ, zero, suc, _+_, _/_, _≤_}
+use native.Mathlib.Omega.{arith}
+use native.Mathlib.Nat.{add-assoc, add-zero, zero-add}
+use lib.ListN.{length, getD, take, drop, length-take, length-drop, take-append-drop}
+use lib.Seq.{take-add, take-append-le, drop-append-le, drop-drop}
+use lib.Dec.{eqb}
+use borrow.Author.Tests.{eq-eqb, ne-eqb, eqb-true}
+use Rattle.chunk.specs.declared.Entry.{Entry}
+use Rattle.chunk.specs.Header.{size, span, legal, headed, confirmed}
+use Rattle.chunk.specs.Reading.{entry, reading, listedWords, leftAt, listedAt}
+use Rattle.chunk.proofs.Headers.{and-left, and-right, headed-parts, confirmed-within}
+use Rattle.chunk_laws.specs.Stretch.{Chunk, words, entries, whole as wholeChunk, wholeRow}
+use Rattle.chunk_laws.specs.Resync.{_∈_}
+use Rattle.chunk_laws.proofs.Tests.{and-both}
+use Rattle.chunk_laws.proofs.ByPlace.{listed-place}
+use Rattle.chunk_laws.proofs.Rows.{lists-row}
+use Rattle.frame.specs.Shape.{starts, continues, whole, joining, frameOf, startsFrame, frameChunks, frameWords}
+use Rattle.frame.specs.Picture.{parts, payloadOf, unitsOf, frameUnits}
+use Rattle.frame.specs.Pieces.{framesAndStrays}
+use Rattle.frame.proofs.Joining.{joining-one, listedFrom}
+use Rattle.frame.proofs.UnitWords.{payload-length}
+use Rattle.frame.proofs.Walking.{frame-is, ends as frame-ends}
+use Rattle.frame_laws.specs.Local.{EndToEnd, Local, NoneEnds, StrayAfterGap}
+use Rattle.frame_laws.proofs.Pieces.{and-none, pick, pieces-one}
+
+-- ---- the chunks that join
+
+record Joined (end : ℕ) (all : Bool) (es js : List Entry) : Type 0 where
+  endToEnd : EndToEnd end js
+  among : (f : Entry) → f ∈ js → f ∈ es
+  again : joining end all js ≡ js
+
+joined : (end : ℕ) (all : Bool) (es : List Entry) → Joined end all es (joining end all es)
+unfolding joining
+joined end all [] = record { endToEnd = tt; among = λ f h. h; again = refl }
+joined end all (e ∷ es) =
+    by-join (all && eqb (e .position .0) end && continues (e .header)) refl (joined (end + span (e .header)) (whole (e .header)) es)
+  where
+    by-join : (b : Bool) → all && eqb (e .position .0) end && continues (e .header) ≡ b
+        → (let n = end + span (e .header) in Joined n (whole (e .header)) es (joining n (whole (e .header)) es))
+        → Joined end all (e ∷ es) (joining end all (e ∷ es))
+    by-join false j more =
+        subst (Joined end all (e ∷ es)) (sym (joining-one end all e es false j)) (record { endToEnd = tt; among = λ f h. absurd h; again = refl })
+    by-join true j more =
+        let js : List Entry = joining (end + span (e .header)) (whole (e .header)) es in
+        subst (Joined end all (e ∷ es)) (sym (joining-one end all e es true j)) (record {
+          endToEnd = (eqb-true (e .position .0) end (and-right all _ (and-left (all && eqb (e .position .0) end) _ j)), more .endToEnd);
+          among = λ f h. elim h as (λ x. f ∈ e ∷ es) [ inl z ↦ inl z | inr z ↦ inr (more .among f z) ];
+          again = joining-one end all e js true j ∙ ap (λ (l : List Entry). e ∷ l) (more .again);
+        })
+
+-- ---- where the chunks of a frame stand
+
+-- its header word is there, and it is confirmed
+record Stands (sync : ℕ) (ws : List ℕ) (e : Entry) : Type 0 where
+  word : e .header ≡ getD (drop (e .position .0) ws) 1 0
+  confirms : confirmed sync (drop (e .position .0) ws) ≡ true
+
+module _ (sync : ℕ) (ws : List ℕ) where
+  listed-stands : (e : Entry) → e ∈ reading sync ws → Stands sync ws e
+  unfolding listedAt
+  listed-stands e h =
+      let t = listed-place sync ws e h in
+      record { word = t .1; confirms = and-right (eqb (leftAt sync 0 (e .position .0) ws) 0) _ (t .0) }
+
+  within : (e : Entry) → Stands sync ws e → e .position .0 + span (e .header) ≤ length ws
+  within e s =
+      let n : size (e .header) ≡ size (getD (drop (e .position .0) ws) 1 0) = ap size (s .word) in
+      omega (arith, confirmed-within sync (drop (e .position .0) ws) (s .confirms), length-drop (e .position .0) ws)
+
+  -- where no chunk is confirmed after the first n, there are no more
+  stops-there : (n at : ℕ) (es : List Entry) → EndToEnd at es → ((e : Entry) → e ∈ es → Stands sync ws e)
+      → confirmed sync (drop (at + listedWords (take n es)) ws) ≡ false → take n es ≡ es
+  unfolding listedWords
+  stops-there zero at [] p s z = refl
+  stops-there (suc n) at [] p s z = refl
+  stops-there zero at (e ∷ es) p s z = absurd (false≢true (sym (rw (add-zero at) at z) ∙ (rw (p .0) at (s e (inl refl) .confirms))))
+  stops-there (suc n) at (e ∷ es) p s z =
+      ap (λ (l : List Entry). e ∷ l) (stops-there n (at + span (e .header)) es (p .1) (λ f h. s f (inr h)) (rw (add-assoc at) z))
+
+-- ---- its own words
+
+-- a confirmed chunk at the front of these words, and m words after it
+front : (sync m h : ℕ) (vs : List ℕ) → h ≡ getD vs 1 0 → confirmed sync vs ≡ true
+    → take (span h + m) vs ≡ sync ∷ h ∷ (take (size h) (drop 2 vs) ++ take m (drop (span h) vs))
+unfolding confirmed headed
+front sync m h [] q c = absurd (false≢true c)
+front sync m h (w ∷ []) q c = absurd (false≢true c)
+front sync m h (w ∷ k ∷ vs) q c =
+    let z : w ≡ sync = eqb-true w sync (and-left (eqb w sync) _ (and-left (eqb w sync && legal k) _ c)) in
+    take-add (span h) m (w ∷ k ∷ vs) ∙ ap₂ (λ (x y : ℕ). x ∷ y ∷ (take (size h) vs ++ take m (drop (size h) vs))) z (sym q)
+
+module _ (sync : ℕ) (ws : List ℕ) where
+  -- the row of chunks that these entries say
+  abbrev rowOf : List Entry → List Chunk
+  rowOf [] = []
+  rowOf (e ∷ es) = record { header = e .header; payload = payloadOf ws e } ∷ rowOf es
+
+  row-entries : (at : ℕ) (es : List Entry) → EndToEnd at es → entries at (rowOf es) ≡ es
+  row-entries at [] p = refl
+  row-entries at (e ∷ es) p = ap₂ (λ (n : ℕ) (l : List Entry). entry n (e .header) ∷ l) (sym (p .0)) (row-entries (at + span (e .header)) es (p .1))
+
+  row-whole : (es : List Entry) → ((e : Entry) → e ∈ es → Stands sync ws e) → wholeRow (rowOf es) ≡ true
+  unfolding wholeRow confirmed
+  row-whole [] s = refl
+  row-whole (e ∷ es) s =
+      let h : ℕ = e .header in
+      let t : Stands sync ws e = s e (inl refl) in
+      let l : legal h ≡ true = rw (t .word) (headed-parts sync (drop (e .position .0) ws) (and-left _ _ (t .confirms)) .2) in
+      let n : length (payloadOf ws e) ≡ size h = payload-length ws (e .position .0) h (within sync ws e t) in
+      and-both (wholeChunk (record { header = h; payload = payloadOf ws e })) _ (and-both (legal h) _ l (eq-eqb (length (payloadOf ws e)) (size h) n))
+      (row-whole es (λ f i. s f (inr i)))
+
+  row-words : (at : ℕ) (es : List Entry) → EndToEnd at es → ((e : Entry) → e ∈ es → Stands sync ws e)
+      → take (listedWords es) (drop at ws) ≡ words sync (rowOf es)
+  unfolding listedWords
+  row-words at [] p s = refl
+  row-words at (e ∷ es) p s =
+      let h : ℕ = e .header in
+      let t : Stands sync ws e = s e (inl refl) in
+      let more : take (listedWords es) (drop (at + span h) ws) ≡ words sync (rowOf es) = row-words (at + span h) es (p .1) (λ f i. s f (inr i)) in
+      front sync (listedWords es) h (drop at ws) (rw (p .0) at (t .word)) (rw (p .0) at (t .confirms))
+      ∙ ap₂ (λ (x y : List ℕ). sync ∷ h ∷ (take (size h) x ++ y))
+      (drop-drop 2 at ws ∙ ap (λ (n : ℕ). drop (n + 2) ws) (sym (p .0)))
+      (ap (take (listedWords es)) (drop-drop (span h) at ws) ∙ more)
+
+-- ---- a payload inside the first n words
+
+payload-within : (n : ℕ) (ws : List ℕ) (at h : ℕ) → at + span h ≤ n → n ≤ length ws → payloadOf (take n ws) (entry at h) ≡ payloadOf ws (entry at h)
+payload-within n ws at h f l =
+    let k : length (take n ws) ≡ n = omega (arith, length-take n ws) in
+    sym (
+    ap (λ (v : List ℕ). take (size h) (drop (at + 2) v)) (sym (take-append-drop n ws))
+    ∙ ap (take (size h)) (drop-append-le (at + 2) (take n ws) (drop n ws) (omega arith))
+    ∙ take-append-le (size h) (drop (at + 2) (take n ws)) (drop n ws) (omega (arith, length-drop (at + 2) (take n ws)))
+    )
+
+units-within : (n : ℕ) (ws : List ℕ) → n ≤ length ws → (at : ℕ) (es : List Entry) → EndToEnd at es → at + listedWords es ≤ n
+    → unitsOf (take n ws) es ≡ unitsOf ws es
+unfolding unitsOf listedWords
+units-within n ws l at [] p f = refl
+units-within n ws l at (e ∷ es) p f =
+    let h : ℕ = e .header in
+    ap₂ (λ (x : List ℕ) (us : List (List ℕ)). parts ((size h + 263) / 264) x ++ us)
+    (payload-within n ws (e .position .0) h (omega (arith, p .0)) l)
+    (units-within n ws l (at + span h) es (p .1) (omega arith))
+
+-- ---- the frame
+
+frame-among : (es : List Entry) (f : Entry) → f ∈ frameOf es → f ∈ es
+unfolding frameOf
+frame-among [] f h = h
+frame-among (e ∷ es) f h =
+    elim h as (λ x. f ∈ e ∷ es) [ inl z ↦ inl z | inr z ↦ inr (joined (span (e .header)) (whole (e .header)) es .among f z) ]
+
+frame-again : (es : List Entry) → frameOf (frameOf es) ≡ frameOf es
+unfolding frameOf
+frame-again [] = refl
+frame-again (e ∷ es) = ap (λ (l : List Entry). e ∷ l) (joined (span (e .header)) (whole (e .header)) es .again)
+
+module _ (sync : ℕ) (ws : List ℕ) (s : startsFrame sync ws ≡ true) where
+  abbrev fs : List Entry
+  fs = frameChunks sync ws
+
+  abbrev own : List ℕ
+  own = take (frameWords sync ws) ws
+
+  end-to-end : EndToEnd 0 fs
+  end-to-end =
+      let h : ℕ = getD ws 1 0 in
+      let j = joined (span h) (whole h) (listedFrom sync ws (span h)) in
+      subst (EndToEnd 0) (sym (frame-is sync ws s)) (refl, rw (zero-add (span h)) (j .endToEnd))
+
+  stand : (e : Entry) → e ∈ fs → Stands sync ws e
+  unfolding frameChunks
+  stand e h = listed-stands sync ws e (frame-among (reading sync ws) e h)
+
+  same-chunks : frameChunks sync own ≡ fs
+  unfolding frameChunks
+  same-chunks =
+      ap (λ (v : List ℕ). frameOf (reading sync v)) (row-words sync ws 0 fs end-to-end stand)
+      ∙ ap frameOf (lists-row sync 0 (rowOf sync ws fs) (row-whole sync ws fs stand) ∙ row-entries sync ws 0 fs end-to-end)
+      ∙ frame-again (reading sync ws)
+
+  same-units : frameUnits sync own ≡ frameUnits sync ws
+  same-units =
+      ap (unitsOf own) same-chunks
+      ∙ units-within (frameWords sync ws) ws (frame-ends sync ws s) 0 fs end-to-end (omega arith)
+
+  pub local : Local sync ws
+  local = record {
+    endToEnd = end-to-end;
+    stops = λ n z. stops-there sync ws (suc n) 0 fs end-to-end stand (rw (zero-add (listedWords (take (suc n) fs))) z);
+    sameChunks = same-chunks;
+    sameUnits = same-units;
+  }
+
+-- ---- a continuation after a skipped word
+
+module _ (e : Entry) (after : List Entry) (c : continues (e .header) ≡ true) where
+  abbrev Apart : ℕ → Bool → List Entry → Type 0
+  Apart end all before = framesAndStrays end all (before ++ e ∷ after) ≡ framesAndStrays end all before ++ e ∷ framesAndStrays 0 false after
+
+  apart : (end : ℕ) (all : Bool) (before : List Entry) → all && eqb (e .position .0) end ≡ false → NoneEnds (e .position .0) before → Apart end all before
+  unfolding framesAndStrays
+  apart end all [] j n = pieces-one end all e after true false _ c j refl
+  apart end all (f ∷ before) j n =
+      by-kind (continues (f .header)) refl (all && eqb (f .position .0) end) refl (starts (f .header)) refl (λ m a k. apart m a before k (n .1))
+    where
+      -- f ends elsewhere, so e does not join after it
+      elsewhere : (a : Bool) (m : ℕ) → m ≡ f .position .0 + span (f .header) → a && eqb (e .position .0) m ≡ false
+      elsewhere a m q = rw (ne-eqb (e .position .0) m (λ z. n .0 (sym (z ∙ q)))) (and-none a)
+
+      by-kind : (x : Bool) → continues (f .header) ≡ x → (y : Bool) → all && eqb (f .position .0) end ≡ y → (z : Bool) → starts (f .header) ≡ z
+          → ((m : ℕ) (a : Bool) → a && eqb (e .position .0) m ≡ false → Apart m a before) → Apart end all (f ∷ before)
+      by-kind x p y q z r more =
+          pieces-one end all f (before ++ e ∷ after) x y z p q r ∙ picks x y z q
+          ∙ ap (λ (l : List Entry). l ++ e ∷ framesAndStrays 0 false after) (sym (pieces-one end all f before x y z p q r))
+        where
+          picks : (x y z : Bool) → all && eqb (f .position .0) end ≡ y
+              → pick end all f (before ++ e ∷ after) x y z ≡ pick end all f before x y z ++ e ∷ framesAndStrays 0 false after
+          picks true true z q =
+              let g : f .position .0 ≡ end = eqb-true (f .position .0) end (and-right all _ q) in
+              more (end + span (f .header)) (whole (f .header)) (elsewhere (whole (f .header)) _ (ap (λ (m : ℕ). m + span (f .header)) (sym g)))
+          picks true false z q = ap (λ (l : List Entry). f ∷ l) (more 0 false refl)
+          picks false y true q =
+              ap (λ (l : List Entry). f ∷ l) (more (f .position .0 + span (f .header)) (whole (f .header)) (elsewhere (whole (f .header)) _ refl))
+          picks false y false q = more 0 false refl
+
+pub stray-after-gap : (sync : ℕ) (ws : List ℕ) → StrayAfterGap sync ws
+stray-after-gap sync ws before e after r c n = ap (framesAndStrays 0 false) r ∙ apart e after c 0 false before refl n

@@ -1,0 +1,4 @@
+pub mod Pieces
+pub mod Resync
+pub mod Written
+pub mod Local

@@ -1,0 +1,81 @@
+-- Demand 2 for frames: a frame that is written chunk by chunk, with its observation packet after it, is complete and gives its data back.
+use Prim.Native.Nat.{ℕ, _%_, _≤_}
+use mathlib.Core.Path.{_≡_}
+use mathlib.Core.Bool.{Bool, true, false, _&&_}
+use mathlib.Core.List.{List, [], _∷_, _++_}
+use lib.ListN.{length}
+use lib.Dec.{leb, eqb}
+use Rattle.base.specs.Room.{put}
+use Rattle.base.specs.Limit.{recordingLimit}
+use Rattle.chunk_laws.specs.Stretch.{Chunk, words, offset, wholeRow}
+use Rattle.chunk_laws.specs.Written.{accepted, written}
+use Rattle.parity.specs.Unit.{unitRefusal, unitData}
+use Rattle.frame.specs.Shape.{observes}
+use Rattle.frame.specs.Replies.{frame, frameAt, judged, readReply, afterRead}
+
+-- lists joined
+unfoldable pub joined : List (List ℕ) → List ℕ
+joined [] = []
+joined (l ∷ ls) = l ++ joined ls
+
+-- a row of units: each of 264 words, the last one possibly shorter, of 9 at the least
+unfoldable pub unitRow : List (List ℕ) → Bool
+unitRow [] = false
+unitRow (u ∷ []) = leb 9 (length u) && leb (length u) 264
+unitRow (u ∷ v ∷ us) = eqb (length u) 264 && unitRow (v ∷ us)
+
+-- The chunks of a frame, each given by its units: the first has the camera, the others are continuations.
+abbrev pub frameRow : ℕ → List (List (List ℕ)) → List Chunk
+frameRow cam [] = []
+frameRow cam (us ∷ uss) = written 0 cam (joined us) ∷ frameRow 0 uss
+
+-- every chunk is a row of units, which the chunk writer takes
+unfoldable pub writable : ℕ → List (List (List ℕ)) → Bool
+writable cam [] = true
+writable cam (us ∷ uss) = unitRow us && accepted 0 cam (joined us) && writable 0 uss
+
+-- there is a chunk, and all but the last are a multiple of 264
+unfoldable pub fullButLast : List (List (List ℕ)) → Bool
+fullButLast [] = false
+fullButLast (us ∷ []) = true
+fullButLast (us ∷ vs ∷ uss) = eqb (length (joined us) % 264) 0 && fullButLast (vs ∷ uss)
+
+-- all units of a frame, in order
+abbrev pub allUnits : List (List (List ℕ)) → List (List ℕ)
+allUnits [] = []
+allUnits (us ∷ uss) = us ++ allUnits uss
+
+-- each of these units is accepted, and holds the data beside it
+abbrev pub Hold : List (List ℕ) → List (List ℕ) → Type 0
+Hold [] [] = Unit {0}
+Hold [] (d ∷ ds) = ⊥
+Hold (u ∷ us) [] = ⊥
+Hold (u ∷ us) (d ∷ ds) = (unitRefusal u ≡ 0) × (unitData u ≡ d) × Hold us ds
+
+-- A frame of a camera, and after it a health chunk whose first packet observes the camera. Its units hold the data `ds`.
+pub record Written (cam : ℕ) (uss : List (List (List ℕ))) (health : List ℕ) (ds : List (List ℕ)) : Type 0 where
+  pub ofCamera : 1 ≤ cam
+  pub image : writable cam uss ≡ true
+  pub full : fullButLast uss ≡ true
+  pub closing : accepted 1 0 health ≡ true
+  pub observed : observes cam health ≡ true
+  pub hold : Hold (allUnits uss) ds
+
+-- the words of a recording in which they stand after the chunks `before`, with the chunks `after` after them
+abbrev pub recordingOf : ℕ → ℕ → List Chunk → List (List (List ℕ)) → List ℕ → List Chunk → List ℕ
+recordingOf sync cam before uss health after = words sync (before ++ (frameRow cam uss ++ written 1 0 health ∷ after))
+
+-- The frame of n chunks at the place p comes back: it is complete, and its data, in a room that has as many words at the least, are `ds` joined.
+pub record ComesBack (sync cam p n : ℕ) (ws : List ℕ) (ds : List (List ℕ)) : Type 0 where
+  pub described : frameAt sync p ws ≡ frame 0 cam n true (length (joined ds))
+  pub judges : judged sync p ws ≡ frame 0 cam n true (length (joined ds))
+  pub replies : (m : ℕ) → length (joined ds) ≤ m → readReply sync p ws m ≡ frame 0 cam n true (length (joined ds))
+  pub gives : (room : List ℕ) → length (joined ds) ≤ length room → afterRead sync p ws room ≡ put (joined ds) 0 room
+
+-- Every such frame comes back, in every recording of whole chunks that is not too long.
+abbrev pub FramesComeBack : Type 0
+FramesComeBack =
+    (sync cam : ℕ) (before : List Chunk) (uss : List (List (List ℕ))) (health : List ℕ) (after : List Chunk) (ds : List (List ℕ))
+    → Written cam uss health ds → wholeRow before ≡ true → wholeRow after ≡ true
+    → length (recordingOf sync cam before uss health after) ≤ recordingLimit
+    → ComesBack sync cam (offset sync before) (length uss) (recordingOf sync cam before uss health after) ds
