@@ -1,0 +1,66 @@
+-- Going through a recording by its frames and strays comes to an end: each time the place to go on from lies ahead, and within the recording.
+use mathlib.Core.Path.{_≡_, refl, sym, ap, subst}
+use mathlib.Core.Bool.{Bool, true, false}
+use mathlib.Core.List.{List}
+use Prim.Native.Nat.{ℕ, zero, suc, _+_, _≤_, _<_}
+use native.Mathlib.Omega.{arith}
+use lib.ListN.{length, drop, length-drop}
+use lib.Dec.{eqb}
+use borrow.Author.Tests.{eqb-true, eqb-false}
+use Rattle.chunk.specs.declared.Entry.{Entry}
+use Rattle.chunk.specs.declared.Found.{Found}
+use Rattle.chunk.specs.Header.{kind}
+use Rattle.chunk.specs.Reading.{nextFrom, listedWords}
+use Rattle.chunk.proofs.Steps.{Next, stepped, past, found-end}
+use Rattle.frame.specs.declared.Piece.{Piece}
+use Rattle.frame.specs.Shape.{starts, startsFrame, frameWords}
+use Rattle.frame.specs.Pieces.{nextPiece}
+use Rattle.frame.proofs.Stepping.{none, passed, framed, strayed, frame-starts}
+use Rattle.frame.proofs.Walking.{frame-is, ends}
+
+-- a place to go on from
+abbrev On : List ℕ → ℕ → ℕ → Type 0
+On ws p q = (p < q) × (q ≤ length ws)
+
+abbrev pub Ahead : List ℕ → ℕ → Piece → Type 0
+Ahead ws p (Piece.Whole at f on) = On ws p (on .0)
+Ahead ws p (Piece.Stray at on) = On ws p (on .0)
+Ahead ws p Piece.End = Unit {0}
+
+sooner : (ws : List ℕ) (p q : ℕ) → p ≤ q → (x : Piece) → Ahead ws q x → Ahead ws p x
+sooner ws p q h (Piece.Whole at f on) a = (omega arith, a .1)
+sooner ws p q h (Piece.Stray at on) a = (omega arith, a .1)
+sooner ws p q h Piece.End a = tt
+
+-- a frame has words, and ends within the recording
+frame-on : (sync : ℕ) (ws : List ℕ) (p : ℕ) (e : Entry) → Next sync ws p e → startsFrame sync (drop (e .position .0) ws) ≡ true
+    → On ws p (e .position .0 + frameWords sync (drop (e .position .0) ws))
+unfolding listedWords
+frame-on sync ws p e n s =
+    let q : ℕ = e .position .0 in
+    (omega (arith, n .ahead, ap listedWords (frame-is sync (drop q ws) s)), omega (arith, n .within, ends sync (drop q ws) s, length-drop q ws))
+
+module _ (sync : ℕ) (ws : List ℕ) where
+  ahead-from : (k p : ℕ) → length ws ≤ p + k → Ahead ws p (nextPiece sync p ws)
+  ahead-from zero p h = subst (Ahead ws p) (sym (none sync ws p (found-end sync ws p (omega arith)))) tt
+  ahead-from (suc k) p h = by-found (ahead-from k) (nextFrom sync p ws) refl
+    where
+      by-found : ((q : ℕ) → length ws ≤ q + k → Ahead ws q (nextPiece sync q ws)) → (f : Found) → nextFrom sync p ws ≡ f → Ahead ws p (nextPiece sync p ws)
+      by-found more Found.End f = subst (Ahead ws p) (sym (none sync ws p f)) tt
+      by-found more (Found.Chunk e) f = by-kind (eqb (kind (e .header)) 0) refl
+        where
+          n : Next sync ws p e
+          n = stepped sync ws p e f
+
+          by-start : kind (e .header) ≡ 0 → (b : Bool) → starts (e .header) ≡ b → Ahead ws p (nextPiece sync p ws)
+          by-start z true s = subst (Ahead ws p) (sym (framed sync ws p e n z s)) (frame-on sync ws p e n (frame-starts sync ws p e n s))
+          by-start z false s = subst (Ahead ws p) (sym (strayed sync ws p e n z s)) (omega (arith, n .ahead), n .within)
+
+          by-kind : (b : Bool) → eqb (kind (e .header)) 0 ≡ b → Ahead ws p (nextPiece sync p ws)
+          by-kind true z = by-start (eqb-true (kind (e .header)) 0 z) (starts (e .header)) refl
+          by-kind false z =
+              subst (Ahead ws p) (sym (passed sync ws p e n (eqb-false (kind (e .header)) 0 z)))
+              (sooner ws p (past e) (omega (arith, n .ahead)) (nextPiece sync (past e) ws) (more (past e) (omega (arith, n .ahead))))
+
+  pub ahead : (p : ℕ) (x : Piece) → x ≡ nextPiece sync p ws → Ahead ws p x
+  ahead p x e = subst (Ahead ws p) (sym e) (ahead-from (length ws) p (omega arith))

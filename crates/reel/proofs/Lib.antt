@@ -1,0 +1,5 @@
+pub mod Same
+pub mod Entries
+pub mod Ends
+pub mod Fewest
+pub mod Whole

@@ -1,0 +1,124 @@
+-- The reel as a whole: what the writer leaves in the room, and what the reader answers.
+use mathlib.Core.Path.{_≡_, refl, sym, ap, ap₂, _∙_}
+use mathlib.Core.Bool.{Bool, true, false, cond}
+use mathlib.Core.List.{List, _++_, append-assoc}
+use Prim.Native.Nat.{ℕ, _+_, _*_, _-_, _≤_, _<_}
+use native.Mathlib.Nat.{zero-add}
+use native.Mathlib.Omega.{arith}
+use lib.ListN.{length, take, drop, length-append}
+use lib.Dec.{ltb}
+use borrow.Author.Tests.{ltb-false, lt-ltb, le-ltb, lt-leb, le-leb}
+use Rattle.base.specs.Limit.{reelLimit}
+use Rattle.base.specs.Refusal.{verdict, settled, answer}
+use Rattle.base.specs.Room.{put}
+use Rattle.base.specs.declared.Written.{Written}
+use Rattle.base.proofs.Refused.{spared, answer-no, answer-yes, settled-refusal}
+use Rattle.base.proofs.RoomLaws.{put-put, put-length}
+use Rattle.chunk.specs.Reading.{reading}
+use Rattle.reel.specs.declared.Reel.{Reel}
+use Rattle.reel.specs.Layout.{entryWidth, trailerWidth, indexWords, trailer, tailWords, reelOf, reelLeast, reelMost}
+use Rattle.reel.specs.Writing.{reelLength, writeCauses, writeReply, afterWrite}
+use Rattle.reel.specs.Reading.{sameWords, nOf, countOf, recordingOf, trailerAgrees, indexAgrees, accepted, readReply, told}
+use Rattle.reel.proofs.Entries.{index-length}
+use Rattle.reel.proofs.Ends.{part-put, agrees-length}
+
+-- ---- the writer
+
+-- the recording, the entries and the trailer, written one after the other
+pub reel-put : (sync : ℕ) (ws room a b c : List ℕ) (count : ℕ) → reelLength sync ws ≤ length room
+    → count ≡ length (reading sync ws)
+    → a ≡ put ws 0 room
+    → b ≡ put (indexWords (reading sync ws)) (length ws) a
+    → c ≡ put (trailer (take (entryWidth * count) (drop (length ws) b)) count (length ws)) (length ws + entryWidth * count) b
+    → c ≡ put (reelOf sync ws) 0 room
+unfolding reelOf tailWords
+reel-put sync ws room a b c count h ek ea eb ec =
+    let n : ℕ = length ws in
+    let index : List ℕ = indexWords (reading sync ws) in
+    let k : length index ≡ entryWidth * count = index-length (reading sync ws) ∙ ap (λ (m : ℕ). entryWidth * m) (sym ek) in
+    let long : length a ≡ length room = ap length ea ∙ put-length ws 0 room in
+    let tail : List ℕ = trailer index count n in
+    let z : n - n ≡ 0 = omega arith in
+    let there : take (entryWidth * count) (drop n b) ≡ index =
+    ap (λ (l : List ℕ). take (entryWidth * count) (drop n l)) eb
+    ∙ part-put index n n (entryWidth * count) a (omega arith) (omega arith) (omega arith)
+    ∙ ap (λ (m : ℕ). take m (drop n a) ++ index) z in
+    let two : b ≡ put (ws ++ index) 0 room =
+    eb ∙ ap₂ (λ (m : ℕ) (l : List ℕ). put index m l) (sym (zero-add n)) ea ∙ put-put ws index 0 room (omega arith) in
+    let m : n + entryWidth * count ≡ 0 + length (ws ++ index) = omega (arith, length-append ws index) in
+    ec
+    ∙ ap (λ (l : List ℕ). put (trailer l count n) (n + entryWidth * count) b) there
+    ∙ ap₂ (put tail) m two
+    ∙ put-put (ws ++ index) tail 0 room (omega (arith, length-append ws index))
+    ∙ ap (λ (l : List ℕ). put l 0 room) (append-assoc ws index tail)
+    ∙ ap (λ (x : ℕ). put (ws ++ (index ++ trailer index x n)) 0 room) ek
+
+-- the writer's reply, where the recording is too long and where it is not
+pub plan-long : (sync : ℕ) (ws : List ℕ) (m : ℕ) → reelLimit < length ws → settled 1 0 ≡ writeReply sync ws m
+unfolding writeReply settled answer
+plan-long sync ws m h = sym (simp (lt-ltb reelLimit (length ws) h))
+
+pub plan-short : (sync : ℕ) (ws : List ℕ) (m needed : ℕ) → length ws ≤ reelLimit → needed ≡ reelLength sync ws → settled (cond (ltb m needed) 3 0) needed ≡ writeReply sync ws m
+unfolding writeReply
+plan-short sync ws m needed h e =
+    ap (λ (x : ℕ). settled (cond (ltb m x) 3 0) x) e
+    ∙ sym (ap (λ (b : Bool). settled (cond b 1 (cond (ltb m (reelLength sync ws)) 3 0)) (reelLength sync ws)) (le-ltb reelLimit (length ws) h))
+
+module _ (sync : ℕ) (ws room : List ℕ) (r : Written) (e : r ≡ writeReply sync ws (length room)) where
+  number : r .refusal ≡ verdict (writeCauses sync ws (length room))
+  unfolding writeReply
+  number = ap (λ (x : Written). x .refusal) e ∙ settled-refusal (verdict (writeCauses sync ws (length room))) (reelLength sync ws)
+
+  pub untouched : (r .refusal ≡ 0 → ⊥) → room ≡ afterWrite sync ws room
+  unfolding afterWrite
+  untouched h = sym (answer-no _ _ _ (λ z. h (number ∙ z)))
+
+  module _ (z : r .refusal ≡ 0) where
+    pub short : length ws ≤ reelLimit
+    short = ltb-false reelLimit (length ws) (spared (writeCauses sync ws (length room)) refl (sym number ∙ z) .0)
+
+    pub fits : reelLength sync ws ≤ length room
+    fits = ltb-false (length room) (reelLength sync ws) (spared (writeCauses sync ws (length room)) refl (sym number ∙ z) .1 .0)
+
+    pub given : (c : List ℕ) → c ≡ put (reelOf sync ws) 0 room → c ≡ afterWrite sync ws room
+    unfolding afterWrite
+    given c ec = ec ∙ sym (answer-yes _ _ _ (sym number ∙ z))
+
+-- ---- the reader
+
+module _ (sync : ℕ) (r : List ℕ) where
+  pub too-short : (v : Reel) → v ≡ told 1 0 0 → length r < reelLeast → v ≡ readReply sync r
+  unfolding readReply answer
+  too-short v e h = e ∙ sym (simp (lt-ltb (length r) reelLeast h))
+
+  pub too-long : (v : Reel) → v ≡ told 1 0 0 → reelMost < length r → v ≡ readReply sync r
+  unfolding readReply answer
+  too-long v e h = e ∙ sym (simp (le-ltb (length r) reelLeast (omega arith), lt-ltb reelMost (length r) h))
+
+  module _ (low : reelLeast ≤ length r) (high : length r ≤ reelMost) where
+    pub not-accepted : (v : Reel) → v ≡ told 13 0 0 → accepted sync r ≡ false → v ≡ readReply sync r
+    unfolding readReply answer
+    not-accepted v e a = e ∙ sym (simp (le-ltb (length r) reelLeast low, le-ltb reelMost (length r) high, a))
+
+    pub is-accepted : (n count : ℕ) → n ≡ nOf r → count ≡ countOf r → accepted sync r ≡ true → told 0 n count ≡ readReply sync r
+    unfolding readReply answer
+    is-accepted n count en ec a = ap₂ (told 0) en ec ∙ sym (simp (le-ltb (length r) reelLeast low, le-ltb reelMost (length r) high, a))
+
+  pub no-trailer : trailerAgrees r ≡ false → accepted sync r ≡ false
+  no-trailer t = rw t
+
+  module _ (t : trailerAgrees r ≡ true) (n : ℕ) (en : n ≡ nOf r) where
+    pub n-large : reelLimit < n → accepted sync r ≡ false
+    n-large h = rw (t, lt-leb (nOf r) reelLimit (omega arith))
+
+    -- the entries as they stand between the recording and the trailer
+    entries-there : (b : Bool) → b ≡ sameWords (take (length r - trailerWidth - n) (drop n r)) (indexWords (reading sync (take n r))) → b ≡ indexAgrees sync r
+    unfolding indexAgrees
+    entries-there b e =
+        let k : length r - trailerWidth - nOf r ≡ entryWidth * countOf r = omega (arith, agrees-length r t) in
+        e ∙ ap (λ (m : ℕ). sameWords (take (length r - trailerWidth - m) (drop m r)) (indexWords (reading sync (take m r)))) en
+        ∙ ap (λ (m : ℕ). sameWords (take m (drop (nOf r) r)) (indexWords (reading sync (recordingOf r)))) k
+
+    module _ (h : n ≤ reelLimit) (b : Bool) (e : b ≡ sameWords (take (length r - trailerWidth - n) (drop n r)) (indexWords (reading sync (take n r)))) where
+      pub as-entries : accepted sync r ≡ b
+      as-entries = rw (t, le-leb (nOf r) reelLimit (omega arith)) (sym (entries-there b e))

@@ -1,0 +1,53 @@
+-- `reel::plan` meets its contract.
+use mathlib.Core.Path.{ap, _∙_}
+use Prim.Native.Nat.{ℕ}
+use native.Mathlib.Omega.{arith}
+use lib.ListN.{length}
+use Rattle.base.specs.Refusal.{settled}
+use Rattle.chunk.specs.declared.Survey.{Survey}
+use Rattle.reel.specs.Layout.{reelWords}
+use Rattle.reel.proofs.Fewest.{few-chunks}
+use Rattle.reel.proofs.Whole.{plan-long, plan-short}
+use borrow.Author.Needs.{needs}
+use Rattle.reel.proofs.plan.Statement.{statement}
+use Rattle.reel.proofs.plan.Tie as tie
+
+settle-requires : tie.Need-settle-requires
+settle-requires c κs = search needs
+
+returns : tie.Need-returns
+returns c = let a = c .before .before .before .args in c .settle .ensures ∙ plan-long (a .sync) (a .recording .now) (a .room) (c .before .if1 .taken)
+
+count-requires : tie.Need-count-requires
+count-requires c κs = search needs
+
+reel-words-requires : tie.Need-reel-words-requires
+reel-words-requires c κs =
+    let a = c .before .before .before .args in
+    (omega arith, omega (arith, few-chunks (a .sync) (a .recording .now), ap (λ (s : Survey). s .chunks) (c .count .ensures)))
+
+cause-requires : tie.Need-cause-requires
+cause-requires c κs = search needs
+
+settle-requires-2 : tie.Need-settle-requires-2
+settle-requires-2 c κs = search needs
+
+returns-2 : tie.Need-returns-2
+returns-2 c =
+    let w = c .before .before in
+    let a = w .before .before .before .before .args in
+    c .settle2 .ensures ∙ ap (λ (v : ℕ). settled v (w .reel-words .result)) (c .before .cause .ensures)
+    ∙ plan-short (a .sync) (a .recording .now) (a .room) _ (w .before .before .if1 .left)
+    (w .reel-words .ensures ∙ ap (λ (s : Survey). reelWords (length (a .recording .now)) (s .chunks)) (w .before .count .ensures))
+
+pub plan-spec : {M : Type 1} → statement M
+plan-spec =
+    tie.close
+    (tie.spec
+    settle-requires
+    returns
+    count-requires
+    reel-words-requires
+    cause-requires
+    settle-requires-2
+    returns-2)
