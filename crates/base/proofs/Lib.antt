@@ -1,3 +1,4 @@
+pub mod Booleans
 pub mod Refused
 pub mod RoomLaws
 pub mod Pasting

@@ -1,10 +1,9 @@
 -- Functions that go through exclusive-or: two of them that agree on the powers of two below 2 ^ k agree on all numbers below 2 ^ k.
--- Assumes nothing.
+--
 use mathlib.Core.Path.{_≡_, refl, sym, ap, ap₂, _∙_, subst}
-use Prim.Native.Nat.{ℕ, zero, suc, _+_, _*_, _/_, _%_, _^_, _<_}
-use native.Mathlib.Nat.{add-zero, zero-mul, one-mul, mod-lt, le-refl, le-suc, lt-of-lt-of-le, not-suc-le-zero, le-of-suc-le-suc, zero-lt-suc, suc-add, zero-add, lt-trans}
+use Prim.Native.Nat.{ℕ, zero, suc, _*_, _/_, _%_, _^_, _<_}
+use native.Mathlib.Nat.{add-zero, zero-mul, one-mul, mod-lt, le-refl, not-suc-le-zero, le-of-suc-le-suc, lt-trans}
 use native.Mathlib.Numerals.{one-add}
-use native.Mathlib.Omega.{arith}
 use lib.Arith.{lt-one}
 use lib.Pow.{pow-pos, split, shr-lt}
 use lib.Bits.{xor-self, xor-shifted, xor-block, xor-shr, xor-mod}

@@ -4,7 +4,7 @@ use Prim.Native.Nat.{ℕ, zero, suc, _+_, _*_, _/_, _%_, _^_, _<_}
 use native.Mathlib.Nat.{mod-lt, not-suc-le-zero, le-of-suc-le-suc}
 use lib.Dec.{lit<}
 use lib.Arith.{bin-ind, digits-div, digits-mod}
-use lib.Bits.{differ, xor-step, xor-comm, xor-self, xor-zero-l, xor-shr, xor-mod}
+use lib.Bits.{differ, xor-step, xor-comm, xor-self, xor-shr, xor-mod}
 use Rattle.base.specs.Xor.{_⊕_}
 
 differ-lt : (x y : ℕ) → x < 2 → y < 2 → differ x y < 2

@@ -8,13 +8,14 @@ use lib.ListN.{length, getD, take, drop, length-drop}
 use lib.Seq.{getD-drop, drop-drop}
 use lib.Dec.{eqb}
 use borrow.Author.Tests.{eqb-true, not-false}
+use Rattle.base.proofs.Booleans.{and-right}
 use Rattle.base.specs.Refusal.{verdict, answer}
 use Rattle.base.proofs.Refused.{spared, answer-no, answer-yes}
 use Rattle.chunk.specs.declared.Chunk.{Chunk}
 use Rattle.chunk.specs.Header.{size, confirmed}
 use Rattle.chunk.specs.Reading.{leftAt, listedAt}
 use Rattle.chunk.specs.Replies.{placeCauses, chunkAnswer, fieldsOf, chunkAt, payloadAt}
-use Rattle.chunk.proofs.Headers.{and-right, confirmed-within}
+use Rattle.chunk.proofs.Headers.{confirmed-within}
 
 module _ (sync : ℕ) (ws : List ℕ) (place : ℕ) where
   abbrev number : ℕ

@@ -8,6 +8,7 @@ use native.Mathlib.Omega.{arith}
 use lib.ListN.{length}
 use lib.Dec.{leb, eqb}
 use borrow.Author.Tests.{ltb-false, eqb-true, leb-true, not-false}
+use Rattle.base.proofs.Booleans.{and-left, and-right, or-cases}
 use Rattle.base.specs.declared.Written.{Written}
 use Rattle.base.specs.Refusal.{verdict}
 use Rattle.base.specs.Room.{put}
@@ -15,7 +16,7 @@ use Rattle.base.proofs.Refused.{spared, answer-no, answer-yes, settled-refusal}
 use Rattle.base.proofs.RoomLaws.{put-put}
 use Rattle.chunk.specs.Header.{legalSize}
 use Rattle.chunk.specs.Writing.{writable, writeCauses, headerWord, writeReply, roomAfter}
-use Rattle.chunk.proofs.Headers.{and-left, and-right, or-cases, legal-size}
+use Rattle.chunk.proofs.Headers.{legal-size}
 
 -- a kind and a camera that a chunk may have
 pub writable-bounds : (k c : ℕ) → writable k c ≡ true → (k ≤ 1) × (c ≤ 3)

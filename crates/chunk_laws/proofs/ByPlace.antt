@@ -10,10 +10,10 @@ use native.Mathlib.Nat.{add-zero, zero-add, suc-add, add-suc}
 use lib.ListN.{getD, drop}
 use lib.Dec.{leb, eqb}
 use borrow.Author.Tests.{eqb-true, le-leb, lt-leb}
+use Rattle.base.proofs.Booleans.{and-left, and-right}
 use Rattle.chunk.specs.declared.Entry.{Entry}
 use Rattle.chunk.specs.Header.{size, headed, confirmed}
 use Rattle.chunk.specs.Reading.{entry, listed, reading, skippedFrom, leftAt, listedAt}
-use Rattle.chunk.proofs.Headers.{and-left, and-right}
 use Rattle.chunk.proofs.Steps.{listed-at-yes}
 use Rattle.chunk_laws.specs.Resync.{_∈_, from, moved}
 use Rattle.chunk_laws.proofs.Tests.{by-test}

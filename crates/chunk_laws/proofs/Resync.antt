@@ -12,9 +12,10 @@ use lib.ListN.{length, getD, drop}
 use lib.Seq.{drop-append-add, drop-append-seam}
 use lib.Dec.{eqb}
 use borrow.Author.Tests.{eqb-true}
+use Rattle.base.proofs.Booleans.{and-left, and-right}
 use Rattle.chunk.specs.Header.{size, span, legal, headed, ends, confirmed}
 use Rattle.chunk.specs.Reading.{entry, reading, leftAt, listedAt}
-use Rattle.chunk.proofs.Headers.{and-left, and-right, legal-bounds, headed-parts, ends-within}
+use Rattle.chunk.proofs.Headers.{legal-bounds, headed-parts, ends-within}
 use Rattle.chunk.proofs.Steps.{left-split, left-on}
 use Rattle.chunk_laws.specs.Stretch.{Chunk, words, offset, wholeRow, clean, unbroken}
 use Rattle.chunk_laws.specs.Resync.{_∈_, from, moved, ReadAsAlone}

@@ -12,9 +12,10 @@ use lib.ListN.{length, drop, length-append}
 use lib.Seq.{drop-drop}
 use lib.Dec.{leb, eqb}
 use borrow.Author.Tests.{eqb-true, leb-true, not-true}
+use Rattle.base.proofs.Booleans.{and-left, and-right, or-cases}
 use Rattle.chunk.specs.Header.{size, span, kind, imageSize, healthSize, legalSize, legal, headed, ends}
 use Rattle.chunk.specs.Reading.{reading, leftAt}
-use Rattle.chunk.proofs.Headers.{and-left, and-right, or-cases, legal-bounds}
+use Rattle.chunk.proofs.Headers.{legal-bounds}
 use Rattle.chunk_laws.specs.Stretch.{Chunk, words, offset, entries, whole, wholeRow, lacks, clean, headless, unbroken}
 use Rattle.chunk_laws.proofs.Tests.{and-both}
 use Rattle.chunk_laws.proofs.Rows.{long, ends-past, lists-row, left-rest}

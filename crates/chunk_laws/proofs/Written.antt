@@ -10,6 +10,7 @@ use lib.ListN.{length, getD, drop, take, length-append}
 use lib.Seq.{drop-drop}
 use lib.Dec.{leb, eqb}
 use borrow.Author.Tests.{eqb-true, eq-eqb, leb-true, not-false, le-ltb}
+use Rattle.base.proofs.Booleans.{and-left, and-right, or-cases}
 use Rattle.base.specs.Limit.{recordingLimit}
 use Rattle.base.specs.Refusal.{verdict}
 use Rattle.base.proofs.Refused.{spared, answer-yes}
@@ -17,7 +18,7 @@ use Rattle.chunk.specs.Header.{size, camera, kind, span, legalSize, legal}
 use Rattle.chunk.specs.Reading.{entry}
 use Rattle.chunk.specs.Replies.{placeCauses, chunkAnswer, fieldsOf, chunkAt, payloadAt}
 use Rattle.chunk.specs.Writing.{writable, writeCauses, headerWord}
-use Rattle.chunk.proofs.Headers.{and-left, and-right, or-cases, legal-size}
+use Rattle.chunk.proofs.Headers.{legal-size}
 use Rattle.chunk_laws.specs.Stretch.{Chunk, words, offset, whole, wholeRow}
 use Rattle.chunk_laws.specs.Written.{accepted, written, Holds, Alone, Followed}
 use Rattle.chunk_laws.proofs.Tests.{and-both, or-right}

@@ -8,20 +8,21 @@ use lib.ListN.{length, take, drop, getD, length-drop}
 use lib.Seq.{getD-drop}
 use lib.Dec.{ltb, eqb}
 use borrow.Author.Tests.{not-false, eqb-true, ltb-true, lt-ltb, le-ltb, ltb-false}
+use Rattle.base.proofs.Booleans.{and-left, and-right}
+use Rattle.base.proofs.RoomLaws.{to-end}
 use Rattle.base.specs.Refusal.{Causes, verdict, answer, wrongLength, nothingThere, frameCut, wrongParity, noRoom}
 use Rattle.base.specs.Limit.{recordingLimit}
 use Rattle.base.specs.Room.{put}
 use Rattle.base.proofs.Refused.{numbered, spared, answer-no, answer-yes}
 use Rattle.chunk.specs.Header.{confirmed}
 use Rattle.chunk.specs.Reading.{leftAt, listedAt}
-use Rattle.chunk.proofs.Headers.{and-left, and-right}
 use Rattle.chunk.proofs.Steps.{hit-within}
 use Rattle.frame.specs.declared.Frame.{Frame}
 use Rattle.frame.specs.Shape.{starts, startsFrame, complete}
 use Rattle.frame.specs.Picture.{frameUnits, frameLength, frameData, anyDamaged}
 use Rattle.frame.specs.Replies.{refused, described, atCauses, frameAt, judgeCauses, judged, readCauses, readReply, afterRead}
 use Rattle.frame.proofs.Joining.{confirmed-there}
-use Rattle.frame.proofs.Walking.{to-end, long}
+use Rattle.frame.proofs.Walking.{long}
 
 -- ---- causes and further causes
 

@@ -1,21 +1,21 @@
 -- A frame as it is walked: what stands directly after its chunks so far is a question about that place alone, since a chunk that is confirmed there is the
 -- next that is listed, and where none is confirmed the next listed chunk begins later.
 use mathlib.Core.Path.{_≡_, refl, sym, ap, subst, _∙_}
-use mathlib.Core.Bool.{Bool, true, false, cond, _&&_, false≢true}
+use mathlib.Core.Bool.{Bool, true, false, cond, _&&_, and-true, and-false, false≢true}
 use mathlib.Core.List.{List, [], _∷_}
 use Prim.Native.Nat.{ℕ, zero, suc, _+_, _≤_, _<_}
 use native.Mathlib.Omega.{arith}
 use native.Mathlib.Nat.{add-zero, add-assoc}
 use lib.ListN.{length, getD, drop}
 use lib.Dec.{eqb, ltb}
-use borrow.Author.Tests.{eq-eqb, ne-eqb, eqb-true, ltb-true, ltb-false}
+use borrow.Author.Tests.{eq-eqb, ne-eqb, ltb-true, ltb-false}
 use Rattle.chunk.specs.declared.Entry.{Entry}
 use Rattle.chunk.specs.declared.Found.{Found}
 use Rattle.chunk.specs.declared.Found.the-variants.{Chunk, End}
-use Rattle.chunk.specs.Header.{size, kind, span, confirmed}
-use Rattle.chunk.specs.Reading.{entry, listed, reading, listedWords, nextFrom}
-use Rattle.chunk.proofs.Steps.{past, Next, Last, stepped, ended, found-hit, hit-within, confirmed-end}
-use Rattle.frame.specs.Shape.{continues, whole, joining, frameOf, frameChunks, frameWords, observes, closes}
+use Rattle.chunk.specs.Header.{kind, span, confirmed}
+use Rattle.chunk.specs.Reading.{entry, listed, listedWords, nextFrom}
+use Rattle.chunk.proofs.Steps.{past, Next, stepped, ended, found-hit, hit-within, confirmed-end}
+use Rattle.frame.specs.Shape.{continues, whole, joining, observes, closes}
 
 -- the listed chunks from a place on, where no chunk is in hand
 abbrev pub listedFrom : ℕ → List ℕ → ℕ → List Entry
@@ -41,14 +41,6 @@ module _ (sync : ℕ) (ws : List ℕ) (at : ℕ) where
       (λ q. false≢true (sym z ∙ sym (ap (λ (n : ℕ). confirmed sync (drop n ws)) q) ∙ stepped sync ws at e f .confirms))
 
 -- ---- joining
-
-and-false : (a : Bool) → a && false ≡ false
-and-false true = refl
-and-false false = refl
-
-pub and-one : (a : Bool) → a && true ≡ a
-and-one true = refl
-and-one false = refl
 
 -- one listed chunk, by whether it joins
 pub joining-one : (end : ℕ) (all : Bool) (e : Entry) (es : List Entry) (b : Bool) → all && eqb (e .position .0) end && continues (e .header) ≡ b
@@ -85,7 +77,7 @@ module _ (sync : ℕ) (ws : List ℕ) (end : ℕ) where
       by-check false z m = by-found z (nextFrom sync end ws) refl
       by-check true z m =
           let h : ℕ = getD ws (suc end) 0 in
-          let t : all && eqb end end && continues h ≡ false = rw (eq-eqb end end refl, and-one all) m in
+          let t : all && eqb end end && continues h ≡ false = rw (eq-eqb end end refl, and-true all) m in
           ap (joining end all) (next-here sync ws end z .lists) ∙ joining-one end all (entry end h) (listedFrom sync ws (end + span h)) false t
 
 -- ---- the end

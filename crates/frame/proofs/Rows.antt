@@ -10,11 +10,11 @@ use native.Mathlib.Numerals.{add-one}
 use lib.ListN.{length, getD, take, drop, length-append}
 use lib.Seq.{getD-drop}
 use lib.Dec.{eqb, leb}
+use Rattle.base.proofs.Booleans.{and-left, and-right}
 use Rattle.base.specs.Room.{put}
 use Rattle.chunk.specs.declared.Entry.{Entry}
 use Rattle.chunk.specs.Header.{size, camera, kind, span, imageSize, confirmed}
 use Rattle.chunk.specs.Reading.{entry, listedWords}
-use Rattle.chunk.proofs.Headers.{and-left, and-right}
 use Rattle.chunk.proofs.Steps.{hit-within, confirmed-end}
 use Rattle.base.specs.Refusal.{wrongParity}
 use Rattle.parity.specs.Unit.{unitRefusal, unitData}

@@ -1,16 +1,16 @@
 -- Going through a recording, a frame or a stray at a time: what the search finds is the first of the listed chunks, and decides by its header word.
-use mathlib.Core.Path.{_≡_, refl, sym, ap, _∙_}
-use mathlib.Core.Bool.{Bool, true, false, cond, _&&_}
-use mathlib.Core.List.{List, [], _∷_}
-use Prim.Native.Nat.{ℕ, suc, _+_}
+use mathlib.Core.Path.{_≡_, sym, ap, _∙_}
+use mathlib.Core.Bool.{Bool, true, false, cond}
+use mathlib.Core.List.{List, _∷_}
+use Prim.Native.Nat.{ℕ}
 use native.Mathlib.Numerals.{add-one}
-use lib.ListN.{length, getD, drop}
+use lib.ListN.{getD, drop}
 use lib.Seq.{getD-drop}
 use lib.Dec.{eqb}
 use borrow.Author.Tests.{eq-eqb, ne-eqb}
 use Rattle.chunk.specs.declared.Entry.{Entry}
 use Rattle.chunk.specs.declared.Found.{Found}
-use Rattle.chunk.specs.Header.{kind, span, confirmed}
+use Rattle.chunk.specs.Header.{kind}
 use Rattle.chunk.specs.Reading.{nextFrom}
 use Rattle.chunk.proofs.Steps.{past, Next, ended}
 use Rattle.frame.specs.declared.Piece.{Piece}

@@ -1,20 +1,19 @@
 -- The data words of a chunk, from its size alone: each of its units has 8 parity words, and no unit is shorter than that.
-use mathlib.Core.Path.{_≡_, refl, sym, ap, _∙_}
-use mathlib.Core.Bool.{Bool, true, false, cond, _&&_, _||_}
+use mathlib.Core.Path.{_≡_, sym, ap, _∙_}
+use mathlib.Core.Bool.{true, cond, _&&_}
 use mathlib.Core.List.{List, [], _∷_, _++_}
-use mathlib.Core.Logic.{_⊎_, inl, inr}
-use Prim.Native.Nat.{ℕ, zero, suc, _+_, _-_, _*_, _/_, _%_, _≤_, _<_}
+use mathlib.Core.Logic.{inl, inr}
+use Prim.Native.Nat.{ℕ, zero, suc, _+_, _-_, _*_, _/_, _%_, _≤_}
 use native.Mathlib.Omega.{arith}
 use native.Mathlib.Nat.{add-assoc}
-use lib.ListN.{length, getD, take, drop, length-take, length-drop}
-use lib.Seq.{length-take-le, take-all}
+use lib.ListN.{length, getD, drop, length-take, length-drop}
 use lib.Dec.{eqb, leb}
 use borrow.Author.Tests.{eqb-true, leb-true}
+use Rattle.base.proofs.Booleans.{and-left, and-right, or-cases}
 use Rattle.chunk.specs.declared.Entry.{Entry}
-use Rattle.chunk.specs.Header.{size, camera, kind, span, imageSize, healthSize, legalSize, legal, headed, ends, confirmed}
+use Rattle.chunk.specs.Header.{size, kind, span, imageSize, healthSize, legalSize, legal, headed, ends, confirmed}
 use Rattle.chunk.specs.Reading.{entry}
-use Rattle.chunk.proofs.Headers.{and-left, and-right, or-cases, headed-parts}
-use Rattle.frame.specs.Shape.{starts, continues}
+use Rattle.chunk.proofs.Headers.{headed-parts}
 use Rattle.frame.specs.Picture.{parts, payloadOf, chunkUnits, unitsOf, dataWords}
 
 -- m words make n units, the last one of 9 words at the least

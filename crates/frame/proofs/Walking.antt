@@ -1,18 +1,19 @@
 -- The walk over a frame's chunks. The invariant: what joins from here on, with what was walked so far, is the whole frame.
-use mathlib.Core.Path.{_≡_, refl, sym, ap, _∙_}
+use mathlib.Core.Path.{_≡_, sym, ap, _∙_}
 use mathlib.Core.Bool.{Bool, true, false, _&&_}
 use mathlib.Core.List.{List, [], _∷_}
-use Prim.Native.Nat.{ℕ, zero, suc, _+_, _-_, _*_, _/_, _≤_, _<_}
+use Prim.Native.Nat.{ℕ, suc, _+_, _-_, _*_, _/_, _≤_, _<_}
 use native.Mathlib.Omega.{arith}
 use native.Mathlib.Nat.{zero-add}
 use native.Mathlib.Numerals.{add-one}
-use lib.ListN.{length, getD, take, drop, length-drop}
-use lib.Seq.{getD-drop, drop-drop, take-all}
+use lib.ListN.{length, getD, take, drop}
+use lib.Seq.{getD-drop, drop-drop}
 use lib.Dec.{eqb, leb}
+use Rattle.base.proofs.RoomLaws.{to-end}
+use Rattle.base.proofs.Booleans.{and-left, and-right}
 use Rattle.chunk.specs.declared.Entry.{Entry}
 use Rattle.chunk.specs.Header.{size, camera, kind, span, imageSize, confirmed}
-use Rattle.chunk.specs.Reading.{entry, listed, reading, listedWords}
-use Rattle.chunk.proofs.Headers.{and-left, and-right}
+use Rattle.chunk.specs.Reading.{entry, reading, listedWords}
 use Rattle.chunk.proofs.Steps.{hit-within}
 use Rattle.frame.specs.declared.shape.Reach.{Reach}
 use Rattle.frame.specs.Shape.{starts, continues, whole, joining, frameOf, startsFrame, frameChunks, frameWords, frameCamera, joinsFrame, closes, closesFrame, complete}
@@ -20,10 +21,6 @@ use Rattle.frame.specs.Picture.{unitsOf, dataWords, frameLength}
 use Rattle.frame.specs.Replies.{frame, reachOf, described}
 use Rattle.frame.proofs.Joining.{listedFrom, confirmed-there, next-here, joining-step, joining-stop, closes-at, Rest, rest}
 use Rattle.frame.proofs.UnitWords.{image-size, data-more}
-
--- a part of the words up to their end
-pub to-end : (n : ℕ) (ws : List ℕ) → take (length ws - n) (drop n ws) ≡ drop n ws
-to-end n ws = take-all (length ws - n) (drop n ws) (omega (arith, length-drop n ws))
 
 -- what joins after the chunk `last`, which ends at `end`
 abbrev pub ahead : ℕ → List ℕ → ℕ → ℕ → List Entry

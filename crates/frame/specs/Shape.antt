@@ -1,6 +1,6 @@
 -- Document 01, "Frames": which chunks make a frame, and when it is complete. All of it is said of the words from the frame's first word on, so a
 -- position here counts from there, and nothing before a frame can change it.
-use Prim.Native.Nat.{ℕ, suc, _+_, _%_}
+use Prim.Native.Nat.{ℕ, _+_, _%_}
 use mathlib.Core.Bool.{Bool, true, false, _&&_}
 use mathlib.Core.List.{List, [], _∷_}
 use lib.ListN.{length, getD, take, drop}

@@ -1,7 +1,7 @@
 -- A frame's chunks stand end to end, by the rule that joins them, and each is confirmed where it stands. So the words of the frame are a row of whole
 -- chunks, which is listed whole when it is read alone.
 use mathlib.Core.Path.{_≡_, refl, sym, ap, ap₂, subst, _∙_}
-use mathlib.Core.Bool.{Bool, true, false, _&&_, false≢true}
+use mathlib.Core.Bool.{Bool, true, false, _&&_, false≢true, and-false}
 use mathlib.Core.List.{List, [], _∷_, _++_}
 use mathlib.Core.Logic.{inl, inr}
 use Prim.Native.Nat.{ℕ, zero, suc, _+_, _/_, _≤_}
@@ -11,10 +11,11 @@ use lib.ListN.{length, getD, take, drop, length-take, length-drop, take-append-d
 use lib.Seq.{take-add, take-append-le, drop-append-le, drop-drop}
 use lib.Dec.{eqb}
 use borrow.Author.Tests.{eq-eqb, ne-eqb, eqb-true}
+use Rattle.base.proofs.Booleans.{and-left, and-right}
 use Rattle.chunk.specs.declared.Entry.{Entry}
 use Rattle.chunk.specs.Header.{size, span, legal, headed, confirmed}
 use Rattle.chunk.specs.Reading.{entry, reading, listedWords, leftAt, listedAt}
-use Rattle.chunk.proofs.Headers.{and-left, and-right, headed-parts, confirmed-within}
+use Rattle.chunk.proofs.Headers.{headed-parts, confirmed-within}
 use Rattle.chunk_laws.specs.Stretch.{Chunk, words, entries, whole as wholeChunk, wholeRow}
 use Rattle.chunk_laws.specs.Resync.{_∈_}
 use Rattle.chunk_laws.proofs.Tests.{and-both}
@@ -27,7 +28,7 @@ use Rattle.frame.proofs.Joining.{joining-one, listedFrom}
 use Rattle.frame.proofs.UnitWords.{payload-length}
 use Rattle.frame.proofs.Walking.{frame-is, ends as frame-ends}
 use Rattle.frame_laws.specs.Local.{EndToEnd, Local, NoneEnds, StrayAfterGap}
-use Rattle.frame_laws.proofs.Pieces.{and-none, pick, pieces-one}
+use Rattle.frame_laws.proofs.Pieces.{pick, pieces-one}
 
 -- ---- the chunks that join
 
@@ -215,7 +216,7 @@ module _ (e : Entry) (after : List Entry) (c : continues (e .header) ≡ true) w
     where
       -- f ends elsewhere, so e does not join after it
       elsewhere : (a : Bool) (m : ℕ) → m ≡ f .position .0 + span (f .header) → a && eqb (e .position .0) m ≡ false
-      elsewhere a m q = rw (ne-eqb (e .position .0) m (λ z. n .0 (sym (z ∙ q)))) (and-none a)
+      elsewhere a m q = rw (ne-eqb (e .position .0) m (λ z. n .0 (sym (z ∙ q)))) (and-false a)
 
       by-kind : (x : Bool) → continues (f .header) ≡ x → (y : Bool) → all && eqb (f .position .0) end ≡ y → (z : Bool) → starts (f .header) ≡ z
           → ((m : ℕ) (a : Bool) → a && eqb (e .position .0) m ≡ false → Apart m a before) → Apart end all (f ∷ before)

@@ -1,6 +1,6 @@
 -- The next frame or stray is the first of the frames and strays of the list: the chunks that join a frame are no strays, and after them none is in hand.
 use mathlib.Core.Path.{_≡_, refl, sym, ap, subst, _∙_}
-use mathlib.Core.Bool.{Bool, true, false, _&&_}
+use mathlib.Core.Bool.{Bool, true, false, _&&_, and-true}
 use mathlib.Core.List.{List, [], _∷_}
 use Prim.Native.Nat.{ℕ, zero, suc, _+_, _≤_}
 use native.Mathlib.Omega.{arith}
@@ -10,12 +10,12 @@ use native.Mathlib.Numerals.{add-one}
 use lib.Seq.{drop-drop, getD-drop}
 use lib.Dec.{eqb, leb}
 use borrow.Author.Tests.{eq-eqb, ne-eqb, eqb-true, eqb-false, leb-true, leb-false}
+use Rattle.base.proofs.Booleans.{and-left, and-right}
 use Rattle.chunk.specs.declared.Entry.{Entry}
 use Rattle.chunk.specs.declared.Found.{Found}
 use Rattle.chunk.specs.declared.Found.the-variants.{Chunk, End}
 use Rattle.chunk.specs.Header.{kind, camera, span}
 use Rattle.chunk.specs.Reading.{entry, listed, nextFrom, listedWords}
-use Rattle.chunk.proofs.Headers.{and-left, and-right}
 use Rattle.chunk.proofs.Steps.{past, Next, stepped, ended, found-end}
 use Rattle.chunk_laws.specs.Resync.{moved}
 use Rattle.chunk_laws.proofs.ByPlace.{listed-moved}
@@ -23,14 +23,10 @@ use Rattle.frame.specs.declared.Piece.{Piece}
 use Rattle.frame.specs.declared.Piece.the-variants.{Whole, Stray, End as Nothing}
 use Rattle.frame.specs.Shape.{starts, continues, whole, joining, startsFrame, frameWords}
 use Rattle.frame.specs.Pieces.{framesAndStrays, frameThere, strayThere, nextPiece}
-use Rattle.frame.proofs.Joining.{and-one, joining-one, listedFrom, Rest, rest}
+use Rattle.frame.proofs.Joining.{joining-one, listedFrom, Rest, rest}
 use Rattle.frame.proofs.Walking.{ahead, frame-is}
 use Rattle.frame.proofs.Stepping.{none, passed as health-passed, framed, strayed, frame-starts}
 use Rattle.frame_laws.specs.Pieces.{piecesFrom, Says}
-
-pub and-none : (a : Bool) → a && false ≡ false
-and-none true = refl
-and-none false = refl
 
 -- one listed chunk: whether it continues a frame, whether it joins the one in hand, whether it starts one
 module _ (end : ℕ) (all : Bool) (e : Entry) (es : List Entry) where
@@ -65,7 +61,7 @@ alone end all e es n = by-kind (continues (e .header)) refl n
     by-kind : (c : Bool) → continues (e .header) ≡ c → all && eqb (e .position .0) end && c ≡ false
         → framesAndStrays end all (e ∷ es) ≡ framesAndStrays 0 false (e ∷ es)
     by-kind true x m =
-        pieces-one end all e es true false (starts (e .header)) x (sym (and-one (all && eqb (e .position .0) end)) ∙ m) refl
+        pieces-one end all e es true false (starts (e .header)) x (sym (and-true (all && eqb (e .position .0) end)) ∙ m) refl
         ∙ sym (pieces-one 0 false e es true false (starts (e .header)) x refl refl)
     by-kind false x m =
         pieces-one end all e es false (all && eqb (e .position .0) end) (starts (e .header)) x refl refl

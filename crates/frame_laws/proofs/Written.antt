@@ -1,7 +1,7 @@
 -- A written frame comes back. Its chunks stand end to end in a row of whole chunks, so the row's list is known; those that join are its own, since the next
 -- is a health chunk; and each payload splits into the units that it was joined of.
 use mathlib.Core.Path.{_≡_, refl, sym, ap, ap₂, _∙_}
-use mathlib.Core.Bool.{Bool, true, false, _&&_, false≢true}
+use mathlib.Core.Bool.{Bool, true, false, _&&_, false≢true, and-false}
 use mathlib.Core.List.{List, [], _∷_, _++_, append-nil}
 use Prim.Native.Nat.{ℕ, suc, _+_, _*_, _/_, _%_, _≤_}
 use native.Mathlib.Omega.{arith}
@@ -10,6 +10,7 @@ use lib.ListN.{length, take, drop, length-append, List·getD-append}
 use lib.Seq.{take-all, take-at, drop-at, take-append-le, drop-drop}
 use lib.Dec.{eqb, leb, ltb}
 use borrow.Author.Tests.{eq-eqb, ne-eqb, eqb-true, leb-true, le-leb, le-ltb}
+use Rattle.base.proofs.Booleans.{and-left, and-right}
 use Rattle.base.specs.Refusal.{verdict}
 use Rattle.base.specs.Room.{put}
 use Rattle.base.specs.Limit.{recordingLimit}
@@ -18,7 +19,6 @@ use Rattle.chunk.specs.declared.Entry.{Entry}
 use Rattle.chunk.specs.Header.{size, kind, span, legalSize, confirmed}
 use Rattle.chunk.specs.Reading.{entry, listedWords}
 use Rattle.chunk.specs.Writing.{headerWord}
-use Rattle.chunk.proofs.Headers.{and-left, and-right}
 use Rattle.chunk_laws.specs.Stretch.{Chunk, words, offset, entries, whole as wholeChunk, wholeRow}
 use Rattle.chunk_laws.specs.Written.{accepted, written}
 use Rattle.chunk_laws.proofs.Tests.{and-both}
@@ -34,7 +34,6 @@ use Rattle.frame.proofs.Joining.{joining-one}
 use Rattle.frame.proofs.Units.{joined-length}
 use Rattle.frame.proofs.Walking.{complete-at}
 use Rattle.frame_laws.specs.Written.{joined, unitRow, Hold, frameRow, writable, fullButLast, allUnits, Written, recordingOf, ComesBack, FramesComeBack}
-use Rattle.frame_laws.proofs.Pieces.{and-none}
 
 -- ---- a payload splits into its units
 
@@ -157,7 +156,7 @@ unfolding fullButLast
 joins-own health after k cam us [] w f end =
     let all : Bool = whole (headerWord 0 cam (length (joined us))) in
     joining-one end all (entry end (health .header)) (entries (end + span (health .header)) after) false
-    (rw (ne-eqb (kind (health .header)) 0 (λ z. omega arith)) (and-none (all && eqb end end)))
+    (rw (ne-eqb (kind (health .header)) 0 (λ z. omega arith)) (and-false (all && eqb end end)))
 joins-own health after k cam us (vs ∷ uss) w f end =
     let h : ℕ = headerWord 0 0 (length (joined vs)) in
     let t : accepted 0 0 (joined vs) ≡ true = taken 0 vs uss (others cam us (vs ∷ uss) w) in

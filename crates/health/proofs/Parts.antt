@@ -5,9 +5,8 @@ use Prim.Native.Nat.{ℕ, _+_, _-_, _≤_}
 use native.Mathlib.Nat.{add-sub-cancel-left}
 use native.Mathlib.Omega.{arith}
 use lib.ListN.{length, take, drop, length-take, length-drop, drop-of-length-le}
-use lib.Seq.{take-all}
 use Rattle.base.specs.Room.{put}
-use Rattle.base.proofs.RoomLaws.{put-fits}
+use Rattle.base.proofs.RoomLaws.{put-fits, to-end}
 use Rattle.crc.specs.Crc.{crcWords, crcStart}
 use Rattle.crc.proofs.Laws.{crc-append}
 use Rattle.health.specs.Packet.{packetCrc}
@@ -19,10 +18,6 @@ whole s d h =
     put-fits s 0 d (omega arith)
     ∙ ap (λ (r : List ℕ). s ++ r) (drop-of-length-le d {i = 0 + length s} (omega arith))
     ∙ append-nil s
-
--- a part from a place to the end
-pub to-end : (k : ℕ) (p : List ℕ) → take (length p - k) (drop k p) ≡ drop k p
-to-end k p = take-all (length p - k) (drop k p) (omega (arith, length-drop k p))
 
 -- an array filled with all from a place on
 pub fills : (k : ℕ) (p d : List ℕ) → length p ≡ k + length d → {x : List ℕ} → x ≡ put (take (length p - k) (drop k p)) 0 d → x ≡ drop k p

@@ -9,13 +9,14 @@ use lib.ListN.{length, getD, take, drop}
 use lib.Seq.{take-at}
 use lib.Dec.{eqb}
 use borrow.Author.Tests.{eq-eqb, eqb-true, le-ltb}
+use Rattle.base.proofs.Booleans.{and-left, and-right}
 use Rattle.base.specs.Refusal.{verdict}
 use Rattle.base.proofs.Refused.{answer-yes}
 use Rattle.base.proofs.RoomLaws.{put-fits}
 use Rattle.health.specs.Packet.{packetType, packetTime, packetWords, packetCrc, crcRight, permittedType, soundPacket}
 use Rattle.health.specs.Reading.{packetCauses, packetOf, readPacket}
 use Rattle.health.specs.Writing.{writableType, writtenCrc, packetFrom, writeVerdict, roomAfter}
-use Rattle.health.proofs.Sound.{and-left, and-right, sound-verdict, sound-long}
+use Rattle.health.proofs.Sound.{sound-verdict, sound-long}
 
 module _ (t s : ℕ) (ws : List ℕ) (takes : writableType t ≡ true) (long : length ws ≡ 29) where
   long-packet : length (packetFrom t s ws) ≡ 32

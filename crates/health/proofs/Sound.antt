@@ -7,19 +7,11 @@ use native.Mathlib.Omega.{arith}
 use lib.ListN.{length, take, drop, length-take, length-drop}
 use lib.Dec.{eqb}
 use borrow.Author.Tests.{ne-eqb, eqb-true, not-false}
+use Rattle.base.proofs.Booleans.{and-left}
 use Rattle.base.specs.Refusal.{verdict}
 use Rattle.base.proofs.Refused.{spared}
 use Rattle.health.specs.Packet.{soundPacket, crcRight, permittedType, packetType}
 use Rattle.health.specs.Reading.{packetCauses, readerCauses}
-
-pub and-left : (a b : Bool) → a && b ≡ true → a ≡ true
-and-left true b e = refl
-and-left false b e = e
-
-pub and-right : (a b : Bool) → a && b ≡ true → b ≡ true
-and-right true b e = e
-and-right false true e = refl
-and-right false false e = e
 
 none-holds : (a b c : Bool) → eqb (cond (not a) 1 (cond (not b) 5 (cond (not c) 7 0))) 0 ≡ a && b && c
 none-holds true true true = refl

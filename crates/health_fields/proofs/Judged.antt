@@ -7,9 +7,10 @@ use native.Mathlib.Omega.{arith}
 use lib.ListN.{length, getD}
 use lib.Dec.{eqb, leb}
 use borrow.Author.Tests.{leb-true}
+use Rattle.base.proofs.Booleans.{and-left, and-right}
 use Rattle.base.specs.Refusal.{verdict}
 use Rattle.health.specs.Packet.{packetType}
-use Rattle.health.proofs.Sound.{and-left, and-right, judged-long, judged-own}
+use Rattle.health.proofs.Sound.{judged-long, judged-own}
 use Rattle.health_fields.specs.Observation.{flagsKnown, regionKnown, isObservation, observationCauses}
 use Rattle.health_fields.specs.Checksums.{checksumCauses}
 use Rattle.health_fields.specs.Upsets.{lastFilled, isUpsets, upsetCauses}

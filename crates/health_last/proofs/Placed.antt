@@ -7,10 +7,10 @@ use native.Mathlib.Omega.{arith}
 use lib.ListN.{length, take, drop, length-take, length-drop}
 use lib.Dec.{eqb, ltb}
 use borrow.Author.Tests.{eq-eqb, ne-eqb, eqb-true, eqb-false}
+use Rattle.base.proofs.Booleans.{and-left, and-right}
 use Rattle.base.specs.Refusal.{Causes, verdict, answer, nothingThere}
 use Rattle.base.specs.declared.Words.{Words}
 use Rattle.base.proofs.Refused.{numbered, spared, answer-no, answer-yes}
-use Rattle.chunk.proofs.Headers.{and-left, and-right}
 use Rattle.health.specs.Packet.{packetType, soundPacket}
 use Rattle.health.proofs.Sound.{sound-long}
 use Rattle.health_last.specs.declared.Place.{Place}

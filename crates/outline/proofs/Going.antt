@@ -8,11 +8,11 @@ use native.Mathlib.Omega.{arith}
 use lib.ListN.{length, drop, getD}
 use lib.Dec.{ltb, eqb}
 use borrow.Author.Tests.{ltb-true, ltb-false, eqb-true}
+use Rattle.base.proofs.Booleans.{and-right}
 use Rattle.chunk.specs.declared.Entry.{Entry}
 use Rattle.chunk.specs.declared.Found.{Found}
 use Rattle.chunk.specs.Header.{kind, confirmed}
 use Rattle.chunk.specs.Reading.{entry, listed}
-use Rattle.chunk.proofs.Headers.{and-right}
 use Rattle.chunk.proofs.Steps.{Next, Last, past, stepped, found-hit, confirmed-end}
 use Rattle.outline.specs.Runs.{adjacent, runs, countKind}
 use Rattle.outline.specs.Within.{Begins, kindAt, runsFrom, RunAt}

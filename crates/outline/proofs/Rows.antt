@@ -6,9 +6,9 @@ use Prim.Native.Nat.{ℕ, _+_}
 use native.Mathlib.Nat.{add-zero}
 use lib.Dec.{eqb}
 use borrow.Author.Tests.{eqb-true}
+use Rattle.base.proofs.Booleans.{and-right}
 use Rattle.chunk.specs.declared.Entry.{Entry}
 use Rattle.chunk.specs.Header.{kind, span}
-use Rattle.chunk.proofs.Headers.{and-right}
 use Rattle.outline.specs.Runs.{adjacent, before, runs, countKind}
 
 -- 1 for a chunk of the kind k

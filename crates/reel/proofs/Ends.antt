@@ -8,10 +8,10 @@ use lib.ListN.{length, take, drop, getD, length-append, length-drop}
 use lib.Seq.{drop-append-le, take-at, drop-at, take-add, drop-drop, length-take-le}
 use lib.Dec.{eqb}
 use borrow.Author.Tests.{eqb-true, eq-eqb, ne-eqb}
+use Rattle.base.proofs.Booleans.{and-left}
 use Rattle.base.specs.Room.{put}
 use Rattle.base.proofs.RoomLaws.{put-fits, put-put}
 use Rattle.crc.specs.Crc.{crcWords, crcStart}
-use Rattle.chunk.proofs.Headers.{and-left}
 use Rattle.reel.specs.Layout.{entryWidth, trailerWidth, edition, pointers, reelCrc, trailer, reelWords}
 use Rattle.reel.proofs.Entries.{two}
 use Rattle.reel.specs.Reading.{countOf, nOf, crcOf, editionOf, indexOf, trailerAgrees}

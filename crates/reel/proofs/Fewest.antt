@@ -9,11 +9,12 @@ use lib.ListN.{length, getD, drop}
 use lib.Seq.{getD-drop}
 use lib.Dec.{leb, eqb}
 use borrow.Author.Tests.{eqb-true, leb-true}
+use Rattle.base.proofs.Booleans.{and-left, and-right, or-cases}
 use Rattle.chunk.specs.declared.Entry.{Entry}
 use Rattle.chunk.specs.declared.Found.{Found}
 use Rattle.chunk.specs.Header.{size, kind, imageSize, healthSize, legalSize, legal, confirmed, headed}
 use Rattle.chunk.specs.Reading.{reading, nextFrom}
-use Rattle.chunk.proofs.Headers.{and-left, and-right, or-cases, headed-parts}
+use Rattle.chunk.proofs.Headers.{headed-parts}
 use Rattle.chunk.proofs.Steps.{Next, stepped, ended, past, found-end}
 use Rattle.reel.specs.Layout.{shortestChunk}
 use Rattle.reel.proofs.Entries.{rest}

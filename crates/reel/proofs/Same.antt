@@ -7,7 +7,7 @@ use native.Mathlib.Omega.{arith}
 use lib.ListN.{length, take, drop}
 use lib.Dec.{eqb}
 use borrow.Author.Tests.{eqb-true, eq-eqb, ne-eqb}
-use Rattle.chunk.proofs.Headers.{and-left, and-right}
+use Rattle.base.proofs.Booleans.{and-left, and-right}
 use Rattle.reel.specs.Reading.{sameWords}
 
 pub same-true : (xs ys : List ℕ) → sameWords xs ys ≡ true → xs ≡ ys

@@ -8,6 +8,7 @@ use lib.ListN.{length, getD, take, drop, take-append-drop, length-drop}
 use lib.Seq.{take-at, take-add, drop-drop, take-all, length-take-le}
 use lib.Dec.{leb, eqb}
 use borrow.Author.Tests.{eqb-true, leb-true, not-false}
+use Rattle.base.proofs.Booleans.{and-left, and-right}
 use Rattle.base.specs.Limit.{reelLimit}
 use Rattle.base.specs.Refusal.{verdict, answer, settled, wrote}
 use Rattle.base.specs.Room.{put}
@@ -16,7 +17,6 @@ use Rattle.base.proofs.Refused.{spared, answer-yes, settled-refusal}
 use Rattle.base.proofs.RoomLaws.{put-fits}
 use Rattle.chunk.specs.declared.Entry.{Entry}
 use Rattle.chunk.specs.Reading.{entry, reading}
-use Rattle.chunk.proofs.Headers.{and-left, and-right}
 use Rattle.reel.specs.declared.Reel.{Reel}
 use Rattle.reel.specs.Layout.{entryWidth, edition, indexWords, pointers, reelCrc, trailer, tailWords, reelOf, reelWords, reelLeast, reelMost}
 use Rattle.reel.specs.Writing.{reelLength, writeCauses, writeReply, afterWrite}

@@ -5,12 +5,13 @@ use Prim.Native.Nat.{ℕ, _+_, _-_, _≤_, _<_}
 use native.Mathlib.Omega.{arith}
 use mathlib.Core.List.{List}
 use lib.ListN.{length, take, drop, length-drop}
+use Rattle.base.proofs.RoomLaws.{to-end}
 use Rattle.frame.specs.declared.Frame.{Frame}
 use Rattle.frame.specs.declared.Piece.{Piece}
 use Rattle.frame.specs.declared.shape.Reach.{Reach}
 use Rattle.frame.specs.Shape.{startsFrame, frameWords}
 use Rattle.frame.specs.Replies.{described, reachOf}
-use Rattle.frame.proofs.Walking.{to-end, long, ends}
+use Rattle.frame.proofs.Walking.{long, ends}
 use borrow.Author.Needs.{needs}
 use Rattle.frame.proofs.pieces.frame_there.Statement.{statement}
 use Rattle.frame.proofs.pieces.frame_there.Tie as tie

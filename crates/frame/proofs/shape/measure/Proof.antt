@@ -1,13 +1,14 @@
 -- `frame::shape::measure` meets its contract: the walk of `Walking`.
 use mathlib.Core.Path.{_≡_, refl, sym, ap, ap₂, _∙_}
-use mathlib.Core.Bool.{true, _&&_}
+use mathlib.Core.Bool.{_&&_}
 use Prim.Native.Nat.{ℕ, _+_, _-_, _<_, _≤_}
 use native.Mathlib.Omega.{arith}
 use lib.ListN as ListN
 use borrow.Author.Needs.{needs}
+use Rattle.base.proofs.RoomLaws.{to-end}
 use Rattle.chunk.specs.Header.{size}
 use Rattle.frame.specs.Shape.{whole, joinsFrame}
-use Rattle.frame.proofs.Walking.{to-end, Walked, long, start, room, turn, done}
+use Rattle.frame.proofs.Walking.{Walked, long, start, room, turn, done}
 use Rattle.frame.proofs.shape.measure.Statement.{statement}
 use Rattle.frame.proofs.shape.measure.Tie as tie
 

@@ -1,0 +1,21 @@
+-- `catalogue::further_wrong` meets its contract: by the test for PATCH.
+use borrow.Author.Needs.{needs}
+use borrow.Author.Tests.{eq-eqb, ne-eqb}
+use Rattle.catalogue.proofs.further_wrong.Statement.{statement}
+use Rattle.catalogue.proofs.further_wrong.Tie as tie
+
+patch-length-requires : tie.Need-patch-length-requires
+patch-length-requires c κs = search needs
+
+zeros-from-requires : tie.Need-zeros-from-requires
+zeros-from-requires c κs = search needs
+
+returns : tie.Need-returns
+returns c = simp (eq-eqb _ _ (c .before .before .if1 .taken), c .before .patch-length .ensures, c .zeros-from .ensures)
+
+returns-2 : tie.Need-returns-2
+returns-2 c = simp (ne-eqb _ _ (c .if1 .left))
+
+pub further-wrong-spec : {M : Type 1} → statement M
+further-wrong-spec =
+    tie.close (tie.spec patch-length-requires zeros-from-requires returns returns-2)

@@ -1,0 +1,15 @@
+-- `catalogue::patch_length` meets its contract: the list of the catalogue, whichever it is.
+use mathlib.Core.Path.{_∙_}
+use borrow.Author.Needs.{needs}
+use Rattle.catalogue.proofs.Judged.{patch-lengths}
+use Rattle.catalogue.proofs.patch_length.Statement.{statement}
+use Rattle.catalogue.proofs.patch_length.Tie as tie
+
+either-requires : tie.Need-either-requires
+either-requires c κs = search needs
+
+returns : tie.Need-returns
+returns c = c .either .ensures ∙ patch-lengths (c .before .args .catalogue) (c .before .args .n)
+
+pub patch-length-spec : {M : Type 1} → statement M
+patch-length-spec = tie.close (tie.spec either-requires returns)

@@ -1,0 +1,3 @@
+pub mod Verdicts
+pub mod ReadLaws
+pub mod WriteLaws

@@ -1,0 +1,103 @@
+-- The reader's reply on its two ways out: refused by the arguments or the total, or with the whole packet looked at.
+use mathlib.Core.Path.{_≡_, refl, sym, ap, _∙_}
+use mathlib.Core.Bool.{Bool, true, false, cond, not, _&&_}
+use mathlib.Core.List.{List, []}
+use Prim.Native.Nat.{ℕ, _-_, _/_, _%_, _≤_}
+use native.Mathlib.Omega.{arith}
+use lib.Dec.{eqb}
+use lib.ListN.{length, getD, take, drop}
+use borrow.Author.Tests.{eqb-true}
+use Rattle.base.specs.Refusal.{Causes, verdict, answer, wrongHeader, wrongCrc}
+use Rattle.base.proofs.Refused.{spared, answer-no, answer-yes}
+use Rattle.crc.specs.Crc.{crcStart, crcBytes}
+use Rattle.catalogue.proofs.Judged.{nest}
+use Rattle.command.specs.declared.Fields.{Fields}
+use Rattle.command.specs.declared.Command.{Command}
+use Rattle.command.specs.Layout.{packetId, word, numberAt, fieldsIn}
+use Rattle.command.specs.Calls.{command, noFields, firstCauses, lastCauses, headerWrong, crcWrong, packetCauses, askedWrong, readCauses, given, readReply, furtherReply}
+use Rattle.command.proofs.Verdicts.{verdict-stop, verdict-go, verdict-front, within}
+
+-- ---- what stands in a packet
+
+pub fields-are : (bs : List ℕ) {w k q a d : ℕ} → w ≡ numberAt word 2 bs → k ≡ getD bs 6 0 → q ≡ getD bs 7 0 → a ≡ numberAt word 8 bs
+    → d ≡ numberAt word 10 bs
+    → _≡_ {A = Fields} (record { sequence = w % 16384; kind = k; qualifier = q; address = a; «data» = d }) (fieldsIn bs)
+fields-are bs ew ek eq ea ed = cc
+
+pub header-is : (bs : List ℕ) {l i s : ℕ} → l ≡ numberAt word 4 bs → i ≡ numberAt word 0 bs → s ≡ numberAt word 2 bs
+    → not (eqb i packetId && eqb (s / 16384) 3 && eqb l (length bs - 7)) ≡ headerWrong bs
+header-is bs el ei es = cc
+
+-- ---- the verdict on a packet
+
+pub inspected : (c m : ℕ) (f : Fields) (bs : List ℕ) {k w o s r : ℕ} {h : Bool} → k ≡ crcBytes crcStart (take (length bs - 2) bs)
+    → o ≡ verdict (lastCauses c m f (take (length bs - 2 - 12) (drop 12 bs))) → h ≡ headerWrong bs → w ≡ numberAt word (length bs - 2) bs
+    → s ≡ cond (not (eqb k w)) wrongCrc o → r ≡ cond h wrongHeader s → r ≡ verdict (packetCauses c m f bs)
+inspected c m f bs {k} {w} {o} {s} {r} {h} ek eo eh ew es er =
+    let l : length bs - 2 - 12 ≡ length bs - 14 = omega arith in
+    let crc : not (eqb k w) ≡ crcWrong bs =
+    ap (λ (x : ℕ). not (eqb x w)) ek ∙ ap (λ (x : ℕ). not (eqb (crcBytes crcStart (take (length bs - 2) bs)) x)) ew
+    in
+    er ∙ nest wrongHeader eh (es ∙ nest wrongCrc crc (eo ∙ ap (λ (n : ℕ). verdict (lastCauses c m f (take n (drop 12 bs)))) l))
+
+-- ---- the replies
+
+-- a refused reply is the same whatever it would have given
+given-no : (v : ℕ) (f g : Fields) (m n : ℕ) → (v ≡ 0 → ⊥) → given v f m ≡ given v g n
+unfolding given
+given-no v f g m n h = answer-no v _ _ h ∙ sym (answer-no v _ _ h)
+
+pub given-refusal : (v : ℕ) (f : Fields) (n : ℕ) → given v f n .refusal ≡ v
+unfolding given answer
+given-refusal v f n = by (eqb v 0) refl
+  where
+    by : (b : Bool) → eqb v 0 ≡ b → cond b (command 0 f n) (command v noFields 0) .refusal ≡ v
+    by true e = sym (eqb-true v 0 e)
+    by false e = refl
+
+module _ (c m : ℕ) (bs : List ℕ) where
+  abbrev early : Causes
+  early = firstCauses (askedWrong c m) c (length bs)
+
+  abbrev late : Causes
+  late = packetCauses c m (fieldsIn bs) bs
+
+  module _ {a : Bool} {v : ℕ} (ea : a ≡ askedWrong c m) (ev : v ≡ verdict (firstCauses a c (length bs))) where
+    e : v ≡ verdict early
+    e = ev ∙ ap (λ (b : Bool). verdict (firstCauses b c (length bs))) ea
+
+    -- refused by the arguments or the total
+    pub refused : (v ≡ 0 → ⊥) → (f : Fields) {r : Command} → r ≡ given v f 0 → r ≡ readReply c m bs
+    unfolding readReply
+    refused h f is =
+        is ∙ given-no v f (fieldsIn bs) 0 (length bs - 14) h
+        ∙ ap (λ (x : ℕ). given x (fieldsIn bs) (length bs - 14)) (e ∙ sym (verdict-stop early late (λ z. h (e ∙ z))))
+
+    -- looked at whole
+    pub looked : v ≡ 0 → {w : ℕ} {f : Fields} {r : Command} → f ≡ fieldsIn bs → w ≡ verdict (packetCauses c m f bs) → r ≡ given w f (length bs - 14)
+        → r ≡ readReply c m bs
+    unfolding readReply
+    looked z {w} {f} ef ew is =
+        is ∙ ap (λ (x : Fields). given w x (length bs - 14)) ef
+        ∙ ap (λ (x : ℕ). given x (fieldsIn bs) (length bs - 14))
+        (ew ∙ ap (λ (x : Fields). verdict (packetCauses c m x bs)) ef ∙ sym (verdict-go early late (spared early refl (sym e ∙ z))))
+
+  -- ---- what the reply's number says, for the further bytes
+
+  module _ {r : Command} (e : r ≡ readReply c m bs) where
+    number : r .refusal ≡ verdict (readCauses c m bs)
+    unfolding readReply
+    number = ap (λ (x : Command). x .refusal) e ∙ given-refusal _ _ _
+
+    pub accepted-within : r .refusal ≡ 0 → (14 ≤ length bs) × (length bs ≤ 227)
+    accepted-within z = within (askedWrong c m) c (length bs) (verdict-front early late (sym number ∙ z))
+
+    pub part-none : (r .refusal ≡ 0 → ⊥) → [] ≡ furtherReply c m bs
+    unfolding furtherReply
+    part-none h = sym (answer-no _ _ _ (λ z. h (number ∙ z)))
+
+    pub part-whole : r .refusal ≡ 0 → take (length bs - 2 - 12) (drop 12 bs) ≡ furtherReply c m bs
+    unfolding furtherReply
+    part-whole z =
+        let l : length bs - 2 - 12 ≡ length bs - 14 = omega arith in
+        ap (λ (k : ℕ). take k (drop 12 bs)) l ∙ sym (answer-yes _ _ _ (sym number ∙ z))

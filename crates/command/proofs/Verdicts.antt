@@ -1,0 +1,45 @@
+-- A verdict in two steps: the first causes alone, and the others only where none of the first holds.
+use mathlib.Core.Path.{_≡_, refl, ap, _∙_}
+use mathlib.Core.Bool.{Bool, true, false, cond, not, _&&_, and-eq-true-iff}
+use mathlib.Core.List.{[], _∷_, _++_}
+use Prim.Native.Nat.{ℕ, _≤_}
+use native.Mathlib.Omega.{arith}
+use lib.Dec.{leb, eqb}
+use borrow.Author.Tests.{leb-true, not-false}
+use Rattle.base.specs.Refusal.{Causes, verdict, wrongArgument, wrongLength}
+use Rattle.base.proofs.Refused.{Spared, spared}
+use Rattle.command.specs.Calls.{mostBytes, firstCauses}
+
+pub verdict-stop : (cs ds : Causes) → (verdict cs ≡ 0 → ⊥) → verdict (cs ++ ds) ≡ verdict cs
+verdict-stop [] ds h = absurd (h refl)
+verdict-stop ((n, true) ∷ cs) ds h = refl
+verdict-stop ((n, false) ∷ cs) ds h = verdict-stop cs ds h
+
+pub verdict-go : (cs ds : Causes) → Spared cs → verdict (cs ++ ds) ≡ verdict ds
+verdict-go [] ds s = refl
+verdict-go ((n, b) ∷ cs) ds s = ap (λ (x : Bool). cond x n (verdict (cs ++ ds))) (s .0) ∙ verdict-go cs ds (s .1)
+
+pub verdict-front : (cs ds : Causes) → verdict (cs ++ ds) ≡ 0 → verdict cs ≡ 0
+verdict-front [] ds e = refl
+verdict-front ((n, true) ∷ cs) ds e = e
+verdict-front ((n, false) ∷ cs) ds e = verdict-front cs ds e
+
+-- ---- what the first causes leave
+
+pub first-is : (a : Bool) (c n : ℕ) {m v w : ℕ} → m ≡ mostBytes c → w ≡ cond (not (leb 14 n && leb n m)) wrongLength 0 → v ≡ cond a wrongArgument w
+    → v ≡ verdict (firstCauses a c n)
+first-is a c n em ew ev = ev ∙ ap (cond a wrongArgument) (ew ∙ ap (λ (x : ℕ). cond (not (leb 14 n && leb n x)) wrongLength 0) em)
+
+-- the length of what is not refused at first
+module _ (a : Bool) (c n : ℕ) (h : verdict (firstCauses a c n) ≡ 0) where
+  inside : leb 14 n && leb n (mostBytes c) ≡ true
+  inside = not-false _ (spared (firstCauses a c n) refl h .1 .0)
+
+  pub within : (14 ≤ n) × (n ≤ 227)
+  within =
+      let both = and-eq-true-iff (leb 14 n) (leb n (mostBytes c)) .0 inside in
+      (leb-true 14 n (both .0), omega (arith, leb-true n (mostBytes c) (both .1), most (eqb c 1)))
+    where
+      most : (b : Bool) → cond b 227 62 ≤ 227
+      most true = omega arith
+      most false = omega arith

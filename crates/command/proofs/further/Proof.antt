@@ -1,0 +1,43 @@
+-- `command::further` meets its contract: an accepted command has its head and its CRC, so the part is there.
+use native.Mathlib.Omega.{arith}
+use borrow.Author.Needs.{needs}
+use Rattle.command.proofs.ReadLaws.{accepted-within, part-none, part-whole}
+use Rattle.command.proofs.further.Statement.{statement}
+use Rattle.command.proofs.further.Tie as tie
+
+read-requires : tie.Need-read-requires
+read-requires c κs = search needs
+
+slice-aggregate-result : tie.Need-slice-aggregate-result
+slice-aggregate-result c = search needs
+
+returns : tie.Need-returns
+returns c = part-none _ _ _ (c .before .before .before .read .ensures) (c .before .if1 .taken)
+
+sub-last : tie.Need-sub-last
+sub-last c = omega (arith, accepted-within _ _ _ (c .before .before .read .ensures) (c .if1 .left))
+
+sub-result : tie.Need-sub-result
+sub-result c = omega (arith, accepted-within _ _ _ (c .before .before .read .ensures) (c .if1 .left))
+
+part-result-start : tie.Need-part-result-start
+part-result-start c = omega (arith, accepted-within _ _ _ (c .before .before .read .ensures) (c .if1 .left))
+
+part-result-end : tie.Need-part-result-end
+part-result-end c = search needs
+
+returns-2 : tie.Need-returns-2
+returns-2 c = part-whole _ _ _ (c .before .before .before .read .ensures) (c .before .if1 .left)
+
+pub further-spec : {M : Type 1} → statement M
+further-spec =
+    tie.close
+    (tie.spec
+    read-requires
+    slice-aggregate-result
+    returns
+    sub-last
+    sub-result
+    part-result-start
+    part-result-end
+    returns-2)

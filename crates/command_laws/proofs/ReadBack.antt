@@ -1,0 +1,172 @@
+-- A command as the layout has it, read: the header and the CRC are right, the fields and the further bytes are those laid out. So the reader
+-- judges it as the writer judges the fields.
+use mathlib.Core.Path.{_≡_, refl, sym, ap, ap₂, _∙_}
+use mathlib.Core.Bool.{Bool, true, false, not, _&&_, _||_, or-false, or-true, true≢false}
+use mathlib.Core.List.{List, [], _∷_, _++_}
+use Prim.Native.Nat.{ℕ, _+_, _-_, _*_, _/_, _%_, _<_, _≤_}
+use native.Mathlib.Nat.{add-zero}
+use native.Mathlib.Omega.{arith}
+use lib.Dec.{eqb, ltb}
+use lib.ListN.{length, getD, take, drop, length-append}
+use lib.Seq.{take-at, getD-append-add}
+use borrow.Author.Tests.{eq-eqb, ne-eqb, lt-ltb, ltb-true, ltb-false}
+use Rattle.base.specs.Refusal.{Causes, verdict, wrongHeader, wrongCrc, noRoom}
+use Rattle.base.proofs.Refused.{spared, answer-yes}
+use Rattle.crc.specs.Crc.{crcStart, crcBytes}
+use Rattle.command.specs.declared.Fields.{Fields}
+use Rattle.command.specs.Layout.{widths, headOf, laid, readOff, word, bytesOf, numberAt, bodyBytes, commandBytes, fieldsIn, furtherIn}
+use Rattle.command.specs.Calls.{askedWrong, firstCauses, lastCauses, headerWrong, crcWrong, readCauses, countWrong, askCauses, command, given, readReply, furtherReply, writeReply, written}
+use Rattle.command.proofs.Verdicts.{verdict-front}
+use Rattle.command.proofs.WriteLaws.{reply-number, small, stored}
+use Rattle.base.proofs.RoomLaws.{put-fits}
+use Rattle.command_laws.specs.Agree.{AcceptedAlike, JudgedAlike, GivenBack}
+use Rattle.command_laws.proofs.Laid.{number}
+
+-- the CRC of any body with its CRC behind it
+crc-sound : (body : List ℕ) → crcWrong (body ++ bytesOf word (crcBytes crcStart body)) ≡ false
+crc-sound body =
+    let crc : ℕ = crcBytes crcStart body in
+    let bs : List ℕ = body ++ bytesOf word crc in
+    let n : length bs - 2 ≡ length body = omega (arith, length-append body (bytesOf word crc)) in
+    let high : getD bs (length bs - 2) 0 ≡ crc / 256 =
+    ap (λ (k : ℕ). getD bs k 0) (n ∙ sym (add-zero (length body))) ∙ getD-append-add body (bytesOf word crc) 0 0
+    in
+    let low : getD bs (length bs - 2 + 1) 0 ≡ crc % 256 =
+    ap (λ (k : ℕ). getD bs (k + 1) 0) n ∙ getD-append-add body (bytesOf word crc) 1 0
+    in
+    let stands : numberAt word (length bs - 2) bs ≡ crc = ap₂ (λ (h l : ℕ). h * 256 + l) high low ∙ number crc in
+    let covers : crcBytes crcStart (take (length bs - 2) bs) ≡ crc = ap (crcBytes crcStart) (take-at body (bytesOf word crc) (length bs - 2) (sym n)) in
+    ap not (eq-eqb _ _ (covers ∙ sym stands))
+
+-- what a head says, as the reader has it
+abbrev fieldsOf : List ℕ → Fields
+fieldsOf hs =
+    record { sequence = getD hs 1 0 % 16384; kind = getD hs 3 0; qualifier = getD hs 4 0; address = getD hs 5 0; «data» = getD hs 6 0 }
+
+abbrev headTest : List ℕ → ℕ → Bool
+headTest hs total = not (eqb (getD hs 0 0) 0x13EE && eqb (getD hs 1 0 / 16384) 3 && eqb (getD hs 2 0) (total - 7))
+
+module _ (f : Fields) where
+  -- the head, read off
+  heads : (total : ℕ) (rest : List ℕ) → readOff widths 0 (laid widths (headOf total f) ++ rest) ≡ headOf total f
+  heads total rest = cc (number (49152 + f .sequence), number (total - 7), number (f .address), number (f .«data»))
+
+  tested : (total : ℕ) → headTest (headOf total f) total ≡ countWrong f
+  tested total = simp (eq-eqb (total - 7) (total - 7) refl) (by (ltb (f .sequence) 16384) refl)
+    where
+      by : (b : Bool) → ltb (f .sequence) 16384 ≡ b → not (eqb ((49152 + f .sequence) / 16384) 3 && true) ≡ not b
+      by true e = simp (eq-eqb ((49152 + f .sequence) / 16384) 3 (omega (arith, ltb-true (f .sequence) 16384 e)))
+      by false e = simp (ne-eqb ((49152 + f .sequence) / 16384) 3 (λ z. omega (arith, z, ltb-false (f .sequence) 16384 e)))
+
+  module _ (xs : List ℕ) where
+    abbrev crc : ℕ
+    crc = crcBytes crcStart (bodyBytes f xs)
+
+    pub long : length (commandBytes f xs) ≡ 14 + length xs
+    unfolding commandBytes
+    long = omega (arith, length-append (bodyBytes f xs) (bytesOf word crc))
+
+    pub header : headerWrong (commandBytes f xs) ≡ countWrong f
+    unfolding commandBytes
+    header = ap₂ headTest (heads (14 + length xs) (xs ++ bytesOf word crc)) long ∙ tested (14 + length xs)
+
+    pub sound : crcWrong (commandBytes f xs) ≡ false
+    unfolding commandBytes
+    sound = crc-sound (bodyBytes f xs)
+
+    pub fields : f .sequence < 16384 → fieldsIn (commandBytes f xs) ≡ f
+    unfolding commandBytes
+    fields h =
+        let s : (49152 + f .sequence) % 16384 ≡ f .sequence = omega arith in
+        ap fieldsOf (heads (14 + length xs) (xs ++ bytesOf word crc))
+        ∙ ap (λ (n : ℕ). record { sequence = n; kind = f .kind; qualifier = f .qualifier; address = f .address; «data» = f .«data» }) s
+
+    pub further : furtherIn (commandBytes f xs) ≡ xs
+    unfolding commandBytes
+    further =
+        ap (λ (n : ℕ). take (n - 14) (xs ++ bytesOf word crc)) long ∙ take-at xs (bytesOf word crc) (14 + length xs - 14) (omega arith)
+
+-- ---- the verdicts
+
+-- the reader's causes, for a total, fields and further bytes that are known
+abbrev seenCauses : ℕ → ℕ → ℕ → Bool → Bool → Fields → List ℕ → Causes
+seenCauses c m n h x f xs = firstCauses (askedWrong c m) c n ++ (wrongHeader, h) ∷ (wrongCrc, x) ∷ lastCauses c m f xs
+
+abbrev seen : ℕ → ℕ → ℕ → Bool → Bool → Fields → List ℕ → ℕ
+seen c m n h x f xs = verdict (seenCauses c m n h x f xs)
+
+module _ (c m : ℕ) (f : Fields) (xs : List ℕ) where
+  -- as the layout has them
+  laid-out : verdict (readCauses c m (commandBytes f xs)) ≡ seen c m (14 + length xs) (countWrong f) false (fieldsIn (commandBytes f xs)) xs
+  laid-out =
+      ap (λ (n : ℕ). seen c m n (headerWrong (commandBytes f xs)) (crcWrong (commandBytes f xs)) (fieldsIn (commandBytes f xs)) (furtherIn (commandBytes f xs)))
+      (long f xs)
+      ∙ ap (λ (b : Bool). seen c m (14 + length xs) b (crcWrong (commandBytes f xs)) (fieldsIn (commandBytes f xs)) (furtherIn (commandBytes f xs))) (header f xs)
+      ∙ ap (λ (b : Bool). seen c m (14 + length xs) (countWrong f) b (fieldsIn (commandBytes f xs)) (furtherIn (commandBytes f xs))) (sound f xs)
+      ∙ ap (seen c m (14 + length xs) (countWrong f) false (fieldsIn (commandBytes f xs))) (further f xs)
+
+  -- the count fits
+  module _ (h : f .sequence < 16384) where
+    fits : countWrong f ≡ false
+    fits = ap not (lt-ltb (f .sequence) 16384 h)
+
+    same-number : verdict (readCauses c m (commandBytes f xs)) ≡ verdict (askCauses c m f xs)
+    same-number =
+        laid-out
+        ∙ ap (λ (g : Fields). seen c m (14 + length xs) (countWrong f) false g xs) (fields f xs h)
+        ∙ ap (λ (b : Bool). seen c m (14 + length xs) b false f xs) fits
+        ∙ ap (λ (b : Bool). verdict (firstCauses b c (14 + length xs) ++ lastCauses c m f xs))
+        (sym (or-false (askedWrong c m)) ∙ ap (λ (b : Bool). askedWrong c m || b) (sym fits))
+
+  -- it does not: neither accepts
+  module _ (h : countWrong f ≡ true) where
+    ask-refused : verdict (askCauses c m f xs) ≡ 0 → ⊥
+    ask-refused z =
+        true≢false (sym (or-true (askedWrong c m)) ∙ ap (λ (b : Bool). askedWrong c m || b) (sym h) ∙ spared (askCauses c m f xs) refl z .0)
+
+    read-refused : verdict (readCauses c m (commandBytes f xs)) ≡ 0 → ⊥
+    read-refused z = true≢false (sym h ∙ spared (seenCauses c m (14 + length xs) (countWrong f) false (fieldsIn (commandBytes f xs)) xs) refl (sym laid-out ∙ z) .1 .1 .0)
+
+pub judged-alike : JudgedAlike
+judged-alike = same-number
+
+pub accepted-alike : AcceptedAlike
+accepted-alike c m f xs = by (ltb (f .sequence) 16384) refl
+  where
+    by : (b : Bool) → ltb (f .sequence) 16384 ≡ b
+        → (verdict (askCauses c m f xs) ≡ 0 → verdict (readCauses c m (commandBytes f xs)) ≡ 0)
+        × (verdict (readCauses c m (commandBytes f xs)) ≡ 0 → verdict (askCauses c m f xs) ≡ 0)
+    by true e = (λ z. judged-alike c m f xs (ltb-true (f .sequence) 16384 e) ∙ z, λ z. sym (judged-alike c m f xs (ltb-true (f .sequence) 16384 e)) ∙ z)
+    by false e = (λ z. absurd (ask-refused c m f xs (ap not e) z), λ z. absurd (read-refused c m f xs (ap not e) z))
+
+-- ---- the round trip
+
+module _ (c m : ℕ) (f : Fields) (xs room : List ℕ) (z : writeReply c m f xs (length room) .refusal ≡ 0) where
+  accepted : verdict (askCauses c m f xs) ≡ 0
+  accepted = verdict-front (askCauses c m f xs) ((noRoom, ltb (length room) (14 + length xs)) ∷ []) (sym (reply-number c m f xs room refl) ∙ z)
+
+  fit : (f .sequence < 16384) × (14 + length xs ≤ 227) × (14 + length xs ≤ length room)
+  fit = small c m f xs room refl z
+
+  -- what stands in the room
+  there : take (14 + length xs) (written c m f xs room) ≡ commandBytes f xs
+  there =
+      ap (take (14 + length xs)) (sym (stored c m f xs room refl z refl) ∙ put-fits (commandBytes f xs) 0 room (omega (arith, fit, long f xs)))
+      ∙ take-at (commandBytes f xs) (drop (0 + length (commandBytes f xs)) room) (14 + length xs) (long f xs)
+
+  number-0 : verdict (readCauses c m (commandBytes f xs)) ≡ 0
+  number-0 = judged-alike c m f xs (fit .0) ∙ accepted
+
+  read-back : readReply c m (commandBytes f xs) ≡ command 0 f (length xs)
+  unfolding readReply given
+  read-back =
+      let n : length (commandBytes f xs) - 14 ≡ length xs = omega (arith, long f xs) in
+      answer-yes _ _ _ number-0 ∙ ap₂ (command 0) (fields f xs (fit .0)) n
+
+  further-back : furtherReply c m (commandBytes f xs) ≡ xs
+  unfolding furtherReply
+  further-back = answer-yes _ _ _ number-0 ∙ further f xs
+
+pub given-back : GivenBack
+given-back c m f xs room z =
+    (ap (readReply c m) (there c m f xs room z) ∙ read-back c m f xs room z, ap (furtherReply c m) (there c m f xs room z) ∙ further-back c m f xs room z)

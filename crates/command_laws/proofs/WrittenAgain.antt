@@ -1,0 +1,85 @@
+-- Bytes that the reader accepts are the layout of what it reads off: head, further bytes and CRC, one after the other.
+use mathlib.Core.Path.{_≡_, refl, sym, ap, _∙_}
+use mathlib.Core.Bool.{true, _&&_, and-eq-true-iff}
+use mathlib.Core.List.{List, [], _∷_, _++_}
+use Prim.Native.Nat.{ℕ, _+_, _-_, _/_, _%_, _<_, _≤_}
+use native.Mathlib.Nat.{mod-lt}
+use native.Mathlib.Omega.{arith}
+use lib.Dec.{eqb, lit<}
+use lib.ListN.{length, getD, take, drop, take-append-drop, length-drop, drop-of-length-le}
+use lib.Seq.{drop-drop, take-at, length-take-le}
+use borrow.Author.Tests.{eqb-true, not-false}
+use Rattle.base.specs.Refusal.{verdict}
+use Rattle.base.proofs.Refused.{Spared, spared}
+use Rattle.crc.specs.Crc.{crcStart, crcBytes}
+use Rattle.command.specs.Layout.{widths, headOf, laid, readOff, word, bytesOf, numberAt, bodyBytes, commandBytes, field, fieldsIn, furtherIn}
+use Rattle.command.specs.Calls.{askedWrong, firstCauses, packetCauses, readCauses, askCauses}
+use Rattle.command.proofs.Verdicts.{verdict-front, within}
+use Rattle.command_laws.specs.Agree.{WrittenAlike}
+use Rattle.command_laws.proofs.Laid.{laid-again}
+use Rattle.command_laws.proofs.ReadBack.{judged-alike}
+
+module _ (c m : ℕ) (bs : List ℕ) (bytes : (i : ℕ) → getD bs i 0 < 256) (z : verdict (readCauses c m bs) ≡ 0) where
+  long : (14 ≤ length bs) × (length bs ≤ 227)
+  long = within (askedWrong c m) c (length bs) (verdict-front (firstCauses (askedWrong c m) c (length bs)) (packetCauses c m (fieldsIn bs) bs) z)
+
+  none : Spared (readCauses c m bs)
+  none = spared (readCauses c m bs) refl z
+
+  -- the header
+  right : eqb (field 0 bs) 0x13EE && eqb (field 1 bs / 16384) 3 && eqb (field 2 bs) (length bs - 7) ≡ true
+  right = not-false _ (none .1 .1 .0)
+
+  stand : (field 0 bs ≡ 0x13EE) × (field 1 bs / 16384 ≡ 3) × (field 2 bs ≡ length bs - 7)
+  stand =
+      let both = and-eq-true-iff (eqb (field 0 bs) 0x13EE && eqb (field 1 bs / 16384) 3) (eqb (field 2 bs) (length bs - 7)) .0 right in
+      let front = and-eq-true-iff (eqb (field 0 bs) 0x13EE) (eqb (field 1 bs / 16384) 3) .0 (both .0) in
+      (eqb-true _ _ (front .0), eqb-true _ _ (front .1), eqb-true _ _ (both .1))
+
+  crc : crcBytes crcStart (take (length bs - 2) bs) ≡ numberAt word (length bs - 2) bs
+  crc = eqb-true _ _ (not-false _ (none .1 .1 .1 .0))
+
+  -- the three parts
+  total : 14 + length (furtherIn bs) ≡ length bs
+  total = omega (arith, long, length-drop 12 bs, length-take-le (length bs - 14) (drop 12 bs) (omega (arith, long, length-drop 12 bs)))
+
+  head : readOff widths 0 bs ≡ headOf (14 + length (furtherIn bs)) (fieldsIn bs)
+  head =
+      let count : field 1 bs ≡ 49152 + field 1 bs % 16384 = omega (arith, stand) in
+      let named : field 2 bs ≡ 14 + length (furtherIn bs) - 7 = stand .2 ∙ ap (λ (n : ℕ). n - 7) (sym total) in
+      cc (stand .0)
+
+  front : bs ≡ bodyBytes (fieldsIn bs) (furtherIn bs) ++ drop (length bs - 2) bs
+  front =
+      let place : 12 + (length bs - 14) ≡ length bs - 2 = omega (arith, long) in
+      let rest : drop 12 bs ≡ furtherIn bs ++ drop (length bs - 2) bs =
+      sym (take-append-drop (length bs - 14) (drop 12 bs))
+      ∙ ap (λ (l : List ℕ). furtherIn bs ++ l) (drop-drop (length bs - 14) 12 bs ∙ ap (λ (n : ℕ). drop n bs) place)
+      in
+      laid-again bs bytes widths 0 (omega (arith, long))
+      ∙ ap (λ (hs : List ℕ). laid widths hs ++ drop 12 bs) head
+      ∙ ap (λ (l : List ℕ). laid widths (headOf (14 + length (furtherIn bs)) (fieldsIn bs)) ++ l) rest
+
+  body : take (length bs - 2) bs ≡ bodyBytes (fieldsIn bs) (furtherIn bs)
+  body =
+      ap (take (length bs - 2)) front
+      ∙ take-at (bodyBytes (fieldsIn bs) (furtherIn bs)) (drop (length bs - 2) bs) (length bs - 2) (omega (arith, total))
+
+  end : drop (length bs - 2) bs ≡ bytesOf word (numberAt word (length bs - 2) bs)
+  end =
+      let past : length bs ≤ length bs - 2 + 2 = omega arith in
+      laid-again bs bytes (word ∷ []) (length bs - 2) (omega (arith, long))
+      ∙ ap (λ (l : List ℕ). bytesOf word (numberAt word (length bs - 2) bs) ++ l) (drop-of-length-le bs past)
+
+  pub written-again : bs ≡ commandBytes (fieldsIn bs) (furtherIn bs)
+  unfolding commandBytes
+  written-again =
+      front
+      ∙ ap (λ (l : List ℕ). bodyBytes (fieldsIn bs) (furtherIn bs) ++ l)
+      (end ∙ ap (bytesOf word) (sym crc ∙ ap (crcBytes crcStart) body))
+
+  pub asked-again : verdict (askCauses c m (fieldsIn bs) (furtherIn bs)) ≡ 0
+  asked-again = sym (judged-alike c m (fieldsIn bs) (furtherIn bs) (mod-lt (field 1 bs) (lit< tt))) ∙ ap (λ (l : List ℕ). verdict (readCauses c m l)) (sym written-again) ∙ z
+
+pub written-alike : WrittenAlike
+written-alike c m bs bytes z = (written-again c m bs bytes z, asked-again c m bs bytes z)

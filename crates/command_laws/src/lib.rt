@@ -1,0 +1,1 @@
+// Laws of commands: reader and writer agree; no code.

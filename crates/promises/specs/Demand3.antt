@@ -1,0 +1,21 @@
+-- Demand 3. "After arbitrary words, a clean stretch up to the end of a recording is read as it is read alone: every chunk that begins 8,185 words or more
+-- after the stretch's start is listed, and from the first of its chunks that is listed the list, and every frame that starts there, is exactly that of
+-- the stretch alone."
+use Prim.Native.Nat.{ℕ, _≤_}
+use mathlib.Core.Path.{_≡_}
+use mathlib.Core.Bool.{true}
+use mathlib.Core.List.{List, _++_}
+use lib.ListN.{length}
+use Rattle.base.specs.Limit.{recordingLimit}
+use Rattle.chunk_laws.specs.Stretch.{Chunk, words, clean}
+use Rattle.chunk_laws.specs.Resync.{ReadAsAlone}
+use Rattle.frame_laws.specs.Resync.{FramesAsAlone}
+
+-- the list and the frames of the stretch `cs` after the words `a`
+pub record AsAlone (sync : ℕ) (a : List ℕ) (cs : List Chunk) : Type 0 where
+  pub lists : ReadAsAlone sync a cs
+  pub frames : FramesAsAlone sync a cs
+
+-- for every sync word, all words before, and every clean stretch, in a recording within the limit
+abbrev pub Demand3 : Type 0
+Demand3 = (sync : ℕ) (a : List ℕ) (cs : List Chunk) → clean sync cs ≡ true → length (a ++ words sync cs) ≤ recordingLimit → AsAlone sync a cs

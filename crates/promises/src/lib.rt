@@ -1,0 +1,1 @@
+// The promises of the library in one place; no code.
