@@ -47,7 +47,7 @@ pub fn damaged(words: &[u16], sync: u16) -> bool
     let end = shape::measure(words, sync).end;
     let mut at = 0;
     while at < end {
-        let from = at + shape::HEADER;
+        let from = at + header::HEADER;
         let to = from + header::size_of(words[at + 1]).0;
         if chunk_damaged(&words[from..to]) {
             return true;
@@ -88,7 +88,7 @@ pub fn data(words: &[u16], sync: u16, room: &mut [u16])
     let mut at = 0;
     let mut place = 0;
     while at < end {
-        let from = at + shape::HEADER;
+        let from = at + header::HEADER;
         let to = from + header::size_of(words[at + 1]).0;
         place = chunk_data(&words[from..to], room, place);
         at = to;

@@ -33,7 +33,7 @@ pub fn next(words: &[u16], sync: u16, from: Words) -> Piece
         match found {
             Found::Chunk(entry) => {
                 let begins = entry.position.0;
-                let end = begins + shape::HEADER + header::size_of(entry.header).0;
+                let end = begins + header::HEADER + header::size_of(entry.header).0;
                 if header::kind_of(entry.header) == 0 {
                     if shape::starts(entry.header) {
                         return frame_there(words, sync, begins);

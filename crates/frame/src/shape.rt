@@ -4,6 +4,7 @@ use base::Words;
 use base::room;
 use chunk::Check;
 use chunk::header;
+use chunk::header::HEADER;
 use health::packet;
 ghost use mathlib.Core.Path.{_≡_};
 ghost use mathlib.Core.Bool.{true};
@@ -16,9 +17,6 @@ ghost use Rattle.frame.specs.Replies.{described, reachOf};
 pub const UNIT: usize = 264;
 
 const PARITY: usize = 8;
-
-// the words of the header of a chunk
-pub const HEADER: usize = 2;
 
 // How far a frame reaches: its chunks, its words and its data words.
 pub struct Reach {
