@@ -1,5 +1,4 @@
 -- Functions that go through exclusive-or: two of them that agree on the powers of two below 2 ^ k agree on all numbers below 2 ^ k.
---
 use mathlib.Core.Path.{_≡_, refl, sym, ap, ap₂, _∙_, subst}
 use Prim.Native.Nat.{ℕ, zero, suc, _*_, _/_, _%_, _^_, _<_}
 use native.Mathlib.Nat.{add-zero, zero-mul, one-mul, mod-lt, le-refl, not-suc-le-zero, le-of-suc-le-suc, lt-trans}

@@ -11,15 +11,15 @@ use borrow.Author.Tests.{eqb-true, not-false}
 use Rattle.base.proofs.Booleans.{and-right}
 use Rattle.base.specs.Refusal.{verdict, answer}
 use Rattle.base.proofs.Refused.{spared, answer-no, answer-yes}
-use Rattle.chunk.specs.declared.Chunk.{Chunk}
+use Rattle.chunk.specs.declared.Heading.{Heading}
 use Rattle.chunk.specs.Header.{size, confirmed}
 use Rattle.chunk.specs.Reading.{leftAt, listedAt}
-use Rattle.chunk.specs.Replies.{placeCauses, chunkAnswer, fieldsOf, chunkAt, payloadAt}
+use Rattle.chunk.specs.Replies.{atCauses, heading, headingOf, atReply, payloadReply}
 use Rattle.chunk.proofs.Headers.{confirmed-within}
 
 module _ (sync : ℕ) (ws : List ℕ) (place : ℕ) where
   abbrev number : ℕ
-  number = verdict (placeCauses sync ws place)
+  number = verdict (atCauses sync ws place)
 
   abbrev header : ℕ
   header = getD ws (place + 1) 0
@@ -28,19 +28,19 @@ module _ (sync : ℕ) (ws : List ℕ) (place : ℕ) where
   header-is = getD-drop place ws 1 0
 
   -- the number in the answer
-  pub at-number : chunkAt sync ws place .refusal ≡ number
+  pub at-number : atReply sync ws place .refusal ≡ number
   unfolding answer
   at-number = by-cases (eqb number 0) refl
     where
-      by-cases : (b : Bool) → eqb number 0 ≡ b → cond b (fieldsOf (getD (drop place ws) 1 0)) (chunkAnswer number 0 0 0) .refusal ≡ number
+      by-cases : (b : Bool) → eqb number 0 ≡ b → cond b (headingOf (getD (drop place ws) 1 0)) (heading number 0 0 0) .refusal ≡ number
       by-cases true e = sym (eqb-true number 0 e)
       by-cases false e = refl
 
   -- a refused place: zeros, and no words
-  pub refused-at : (number ≡ 0 → ⊥) → chunkAnswer number 0 0 0 ≡ chunkAt sync ws place
-  refused-at h = sym (answer-no number (λ v. chunkAnswer v 0 0 0) (fieldsOf (getD (drop place ws) 1 0)) h)
+  pub refused-at : (number ≡ 0 → ⊥) → heading number 0 0 0 ≡ atReply sync ws place
+  refused-at h = sym (answer-no number (λ v. heading v 0 0 0) (headingOf (getD (drop place ws) 1 0)) h)
 
-  pub refused-payload : (number ≡ 0 → ⊥) → [] ≡ payloadAt sync ws place
+  pub refused-payload : (number ≡ 0 → ⊥) → [] ≡ payloadReply sync ws place
   refused-payload h = sym (answer-no number (λ v. []) (take (size (getD (drop place ws) 1 0)) (drop 2 (drop place ws))) h)
 
   module _ (z : number ≡ 0) where
@@ -48,17 +48,17 @@ module _ (sync : ℕ) (ws : List ℕ) (place : ℕ) where
     pub stands : place + 2 + size header ≤ length ws
     unfolding listedAt
     stands =
-        let l : listedAt sync place ws ≡ true = not-false _ (spared (placeCauses sync ws place) refl z .1 .0) in
-        let b = confirmed-within sync (drop place ws) (and-right (eqb (leftAt sync 0 place ws) 0) (confirmed sync (drop place ws)) l) in
+        let l : listedAt sync ws place ≡ true = not-false _ (spared (atCauses sync ws place) refl z .1 .0) in
+        let b = confirmed-within sync (drop place ws) (and-right (eqb (leftAt sync 0 ws place) 0) (confirmed sync (drop place ws)) l) in
         omega (arith, simp length-drop at (b .0), ap size header-is)
 
-    pub accepted-at : fieldsOf header ≡ chunkAt sync ws place
-    accepted-at = sym (answer-yes number (λ v. chunkAnswer v 0 0 0) (fieldsOf (getD (drop place ws) 1 0)) z ∙ ap fieldsOf header-is)
+    pub accepted-at : headingOf header ≡ atReply sync ws place
+    accepted-at = sym (answer-yes number (λ v. heading v 0 0 0) (headingOf (getD (drop place ws) 1 0)) z ∙ ap headingOf header-is)
 
-    pub size-is : chunkAt sync ws place .size .0 ≡ size header
-    size-is = sym (ap (λ (a : Chunk). a .size .0) accepted-at)
+    pub size-is : atReply sync ws place .size .0 ≡ size header
+    size-is = sym (ap (λ (a : Heading). a .size .0) accepted-at)
 
-    pub part : (from to : ℕ) → from ≡ place + 2 → to ≡ from + size header → take (to - from) (drop from ws) ≡ payloadAt sync ws place
+    pub part : (from to : ℕ) → from ≡ place + 2 → to ≡ from + size header → take (to - from) (drop from ws) ≡ payloadReply sync ws place
     part from to ef et =
         let n : to - from ≡ size header = omega arith in
         ap (λ (m : ℕ). take m (drop from ws)) n

@@ -31,26 +31,26 @@ skipped-on sync zero ws h = refl
 skipped-on sync (suc left) [] h = absurd (omega arith)
 skipped-on sync (suc left) (w ∷ ws) h = skipped-on sync left ws (omega arith)
 
-pub left-on : (sync left q : ℕ) (ws : List ℕ) → q ≤ left → left ≤ length ws → leftAt sync left q ws ≡ left - q
+pub left-on : (sync left q : ℕ) (ws : List ℕ) → q ≤ left → left ≤ length ws → leftAt sync left ws q ≡ left - q
 unfolding leftAt
 left-on sync left zero ws h k = omega arith
 left-on sync zero (suc q) ws h k = absurd (omega arith)
 left-on sync (suc left) (suc q) [] h k = absurd (omega arith)
 left-on sync (suc left) (suc q) (w ∷ ws) h k = left-on sync left q ws (omega arith) (omega arith) ∙ omega arith
 
-nothing-left : (sync n : ℕ) → leftAt sync 0 n [] ≡ 0
+nothing-left : (sync n : ℕ) → leftAt sync 0 [] n ≡ 0
 unfolding leftAt
 nothing-left sync zero = refl
 nothing-left sync (suc n) = refl
 
 -- the state at p + n is that of the words from p on, with the state at p
-pub left-split : (sync left p n : ℕ) (ws : List ℕ) → leftAt sync left (p + n) ws ≡ leftAt sync (leftAt sync left p ws) n (drop p ws)
+pub left-split : (sync left p n : ℕ) (ws : List ℕ) → leftAt sync left ws (p + n) ≡ leftAt sync (leftAt sync left ws p) (drop p ws) n
 unfolding leftAt
-left-split sync left zero n ws = ap (λ (m : ℕ). leftAt sync left m ws) (zero-add n)
-left-split sync left (suc p) n [] = ap (λ (m : ℕ). leftAt sync left m []) (suc-add p n) ∙ sym (nothing-left sync n)
-left-split sync (suc left) (suc p) n (w ∷ ws) = ap (λ (m : ℕ). leftAt sync (suc left) m (w ∷ ws)) (suc-add p n) ∙ left-split sync left p n ws
+left-split sync left zero n ws = ap (λ (m : ℕ). leftAt sync left ws m) (zero-add n)
+left-split sync left (suc p) n [] = ap (λ (m : ℕ). leftAt sync left [] m) (suc-add p n) ∙ sym (nothing-left sync n)
+left-split sync (suc left) (suc p) n (w ∷ ws) = ap (λ (m : ℕ). leftAt sync (suc left) (w ∷ ws) m) (suc-add p n) ∙ left-split sync left p n ws
 left-split sync zero (suc p) n (w ∷ ws) =
-    ap (λ (m : ℕ). leftAt sync 0 m (w ∷ ws)) (suc-add p n)
+    ap (λ (m : ℕ). leftAt sync 0 (w ∷ ws) m) (suc-add p n)
     ∙ left-split sync (cond (confirmed sync (w ∷ ws)) (suc (size (getD ws 0 0))) 0) p n ws
 
 -- ---- one word, where no chunk is in hand
@@ -78,9 +78,9 @@ found-one sync at w ws true e = ap (λ (b : Bool). elim b as (λ x. Found) [ tru
 found-one sync at w ws false e = ap (λ (b : Bool). elim b as (λ x. Found) [ true ↦ Found.Chunk (entry at (getD ws 0 0)) | false ↦ found sync (suc at) ws ]) e
 
 left-one : (sync n : ℕ) (w : ℕ) (ws : List ℕ) (b : Bool) → confirmed sync (w ∷ ws) ≡ b
-    → leftAt sync 0 (suc n) (w ∷ ws) ≡ leftAt sync (cond b (suc (size (getD ws 0 0))) 0) n ws
+    → leftAt sync 0 (w ∷ ws) (suc n) ≡ leftAt sync (cond b (suc (size (getD ws 0 0))) 0) ws n
 unfolding leftAt
-left-one sync n w ws b e = ap (λ (x : Bool). leftAt sync (cond x (suc (size (getD ws 0 0))) 0) n ws) e
+left-one sync n w ws b e = ap (λ (x : Bool). leftAt sync (cond x (suc (size (getD ws 0 0))) 0) ws n) e
 
 -- nothing is confirmed where no words are left
 pub confirmed-end : (sync p : ℕ) (ws : List ℕ) → length ws ≤ p → confirmed sync (drop p ws) ≡ false
@@ -99,10 +99,10 @@ module _ (sync : ℕ) (ws : List ℕ) (p : ℕ) (h : p < length ws) where
   header : getD (drop (suc p) ws) 0 0 ≡ getD ws (suc p) 0
   header = getD-drop (suc p) ws 0 0 ∙ ap (λ (n : ℕ). getD ws n 0) (add-zero (suc p))
 
-  pub found-miss : confirmed sync (drop p ws) ≡ false → nextFrom sync p ws ≡ nextFrom sync (suc p) ws
+  pub found-miss : confirmed sync (drop p ws) ≡ false → nextFrom sync ws p ≡ nextFrom sync ws (suc p)
   found-miss e = ap (found sync p) here ∙ found-one sync p (getD ws p 0) (drop (suc p) ws) false (told false e)
 
-  pub found-hit : confirmed sync (drop p ws) ≡ true → nextFrom sync p ws ≡ Found.Chunk (entry p (getD ws (suc p) 0))
+  pub found-hit : confirmed sync (drop p ws) ≡ true → nextFrom sync ws p ≡ Found.Chunk (entry p (getD ws (suc p) 0))
   found-hit e =
       ap (found sync p) here ∙ found-one sync p (getD ws p 0) (drop (suc p) ws) true (told true e)
       ∙ ap (λ (x : ℕ). Found.Chunk (entry p x)) header
@@ -113,11 +113,11 @@ module _ (sync : ℕ) (ws : List ℕ) (p : ℕ) (h : p < length ws) where
   skipped-miss : confirmed sync (drop p ws) ≡ false → skippedFrom sync 0 (drop p ws) ≡ suc (skippedFrom sync 0 (drop (suc p) ws))
   skipped-miss e = ap (skippedFrom sync 0) here ∙ skipped-one sync (getD ws p 0) (drop (suc p) ws) false (told false e)
 
-  left-miss : confirmed sync (drop p ws) ≡ false → leftAt sync 0 p ws ≡ 0 → leftAt sync 0 (suc p) ws ≡ 0
+  left-miss : confirmed sync (drop p ws) ≡ false → leftAt sync 0 ws p ≡ 0 → leftAt sync 0 ws (suc p) ≡ 0
   unfolding leftAt
   left-miss e z =
-      ap (λ (n : ℕ). leftAt sync 0 n ws) (sym (add-one p)) ∙ left-split sync 0 p 1 ws ∙ ap (λ (n : ℕ). leftAt sync n 1 (drop p ws)) z
-      ∙ ap (leftAt sync 0 1) here ∙ left-one sync 0 (getD ws p 0) (drop (suc p) ws) false (told false e)
+      ap (λ (n : ℕ). leftAt sync 0 ws n) (sym (add-one p)) ∙ left-split sync 0 p 1 ws ∙ ap (λ (n : ℕ). leftAt sync n (drop p ws) 1) z
+      ∙ ap (λ (x : List ℕ). leftAt sync 0 x 1) here ∙ left-one sync 0 (getD ws p 0) (drop (suc p) ws) false (told false e)
 
   module _ (e : confirmed sync (drop p ws) ≡ true) where
     abbrev word : ℕ
@@ -152,12 +152,12 @@ module _ (sync : ℕ) (ws : List ℕ) (p : ℕ) (h : p < length ws) where
         ∙ ap (λ (x : ℕ). skippedFrom sync (suc (size x)) (drop (suc p) ws)) header
         ∙ skipped-on sync (suc (size word)) (drop (suc p) ws) rest-long ∙ ap (skippedFrom sync 0) rest-at
 
-    left-hit : leftAt sync 0 p ws ≡ 0 → (i : ℕ) → p < i → i ≤ p + span word → leftAt sync 0 i ws ≡ (p + span word) - i
+    left-hit : leftAt sync 0 ws p ≡ 0 → (i : ℕ) → p < i → i ≤ p + span word → leftAt sync 0 ws i ≡ (p + span word) - i
     left-hit z i k m =
         let n : i ≡ p + suc (i - suc p) = omega arith in
-        ap (λ (j : ℕ). leftAt sync 0 j ws) n ∙ left-split sync 0 p (suc (i - suc p)) ws ∙ ap (λ (j : ℕ). leftAt sync j (suc (i - suc p)) (drop p ws)) z
-        ∙ ap (leftAt sync 0 (suc (i - suc p))) here ∙ left-one sync (i - suc p) (getD ws p 0) (drop (suc p) ws) true (told true e)
-        ∙ ap (λ (x : ℕ). leftAt sync (suc (size x)) (i - suc p) (drop (suc p) ws)) header
+        ap (λ (j : ℕ). leftAt sync 0 ws j) n ∙ left-split sync 0 p (suc (i - suc p)) ws ∙ ap (λ (j : ℕ). leftAt sync j (drop p ws) (suc (i - suc p))) z
+        ∙ ap (λ (x : List ℕ). leftAt sync 0 x (suc (i - suc p))) here ∙ left-one sync (i - suc p) (getD ws p 0) (drop (suc p) ws) true (told true e)
+        ∙ ap (λ (x : ℕ). leftAt sync (suc (size x)) (drop (suc p) ws) (i - suc p)) header
         ∙ left-on sync (suc (size word)) (i - suc p) (drop (suc p) ws) (omega arith) rest-long ∙ omega arith
 
 -- ---- up to the next confirmed chunk
@@ -194,11 +194,11 @@ module _ (sync : ℕ) (ws : List ℕ) where
       ∙ ap suc (skipped-noise k (suc p) (omega arith) (λ i a b. f i (omega arith) (omega arith)) ∙ ap (λ (m : ℕ). k + skippedFrom sync 0 (drop m ws)) n)
       ∙ sym (suc-add k _)
 
-  left-noise : (k p : ℕ) → p + k ≤ length ws → Noise sync ws p (p + k) → leftAt sync 0 p ws ≡ 0 → leftAt sync 0 (p + k) ws ≡ 0
-  left-noise zero p h f z = ap (λ (n : ℕ). leftAt sync 0 n ws) (add-zero p) ∙ z
+  left-noise : (k p : ℕ) → p + k ≤ length ws → Noise sync ws p (p + k) → leftAt sync 0 ws p ≡ 0 → leftAt sync 0 ws (p + k) ≡ 0
+  left-noise zero p h f z = ap (λ (n : ℕ). leftAt sync 0 ws n) (add-zero p) ∙ z
   left-noise (suc k) p h f z =
       let n : p + suc k ≡ suc p + k = omega arith in
-      ap (λ (m : ℕ). leftAt sync 0 m ws) n
+      ap (λ (m : ℕ). leftAt sync 0 ws m) n
       ∙ left-noise k (suc p) (omega arith) (λ i a b. f i (omega arith) (omega arith)) (left-miss sync ws p (omega arith) (f p (omega arith) (omega arith)) z)
 
   -- what the search finds is the first that is confirmed
@@ -209,15 +209,15 @@ module _ (sync : ℕ) (ws : List ℕ) where
     word : e ≡ entry (e .position .0) (getD ws (suc (e .position .0)) 0)
     noise : Noise sync ws p (e .position .0)
 
-  pub found-end : (p : ℕ) → length ws ≤ p → nextFrom sync p ws ≡ Found.End
+  pub found-end : (p : ℕ) → length ws ≤ p → nextFrom sync ws p ≡ Found.End
   unfolding found
   found-end p h = ap (found sync p) (drop-of-length-le ws h)
 
-  first : (k p : ℕ) (e : Entry) → length ws ≤ p + k → nextFrom sync p ws ≡ Found.Chunk e → First p e
+  first : (k p : ℕ) (e : Entry) → length ws ≤ p + k → nextFrom sync ws p ≡ Found.Chunk e → First p e
   first zero p e h f = let z : _≡_ {A = ℕ} 0 1 = cc (found-end p (omega arith)) in absurd (omega arith)
   first (suc k) p e h f = by-end (first k (suc p) e (omega arith)) (ltb p (length ws)) refl
     where
-      by-check : (nextFrom sync (suc p) ws ≡ Found.Chunk e → First (suc p) e) → p < length ws → (b : Bool) → confirmed sync (drop p ws) ≡ b → First p e
+      by-check : (nextFrom sync ws (suc p) ≡ Found.Chunk e → First (suc p) e) → p < length ws → (b : Bool) → confirmed sync (drop p ws) ≡ b → First p e
       by-check more l true z =
           let s : e ≡ entry p (getD ws (suc p) 0) = cc (found-hit sync ws p l z) in
           subst (First p) (sym s) (record { ahead = omega arith; there = l; confirms = z; word = refl; noise = λ i a b. absurd (omega arith) })
@@ -225,37 +225,37 @@ module _ (sync : ℕ) (ws : List ℕ) where
           let r : First (suc p) e = more (sym (found-miss sync ws p l z) ∙ f) in
           record { ahead = omega (arith, r .ahead); there = r .there; confirms = r .confirms; word = r .word; noise = noise-more sync ws p (e .position .0) z (r .noise) }
 
-      by-end : (nextFrom sync (suc p) ws ≡ Found.Chunk e → First (suc p) e) → (b : Bool) → ltb p (length ws) ≡ b → First p e
+      by-end : (nextFrom sync ws (suc p) ≡ Found.Chunk e → First (suc p) e) → (b : Bool) → ltb p (length ws) ≡ b → First p e
       by-end more true l = by-check more (ltb-true p (length ws) l) (confirmed sync (drop p ws)) refl
       by-end more false l = let z : _≡_ {A = ℕ} 0 1 = cc (found-end p (ltb-false p (length ws) l)) in absurd (omega arith)
 
   -- no chunk is found: none is confirmed from here on
-  none : (k p : ℕ) → length ws ≤ p + k → nextFrom sync p ws ≡ Found.End → Noise sync ws p (length ws)
+  none : (k p : ℕ) → length ws ≤ p + k → nextFrom sync ws p ≡ Found.End → Noise sync ws p (length ws)
   none zero p h f = λ i a b. absurd (omega arith)
   none (suc k) p h f = by-end (none k (suc p) (omega arith)) (ltb p (length ws)) refl
     where
-      by-check : (nextFrom sync (suc p) ws ≡ Found.End → Noise sync ws (suc p) (length ws)) → p < length ws → (b : Bool) → confirmed sync (drop p ws) ≡ b → Noise sync ws p (length ws)
+      by-check : (nextFrom sync ws (suc p) ≡ Found.End → Noise sync ws (suc p) (length ws)) → p < length ws → (b : Bool) → confirmed sync (drop p ws) ≡ b → Noise sync ws p (length ws)
       by-check more l true z = let x : _≡_ {A = ℕ} 0 1 = cc (found-hit sync ws p l z) in absurd (omega arith)
       by-check more l false z = noise-more sync ws p (length ws) z (more (sym (found-miss sync ws p l z) ∙ f))
 
-      by-end : (nextFrom sync (suc p) ws ≡ Found.End → Noise sync ws (suc p) (length ws)) → (b : Bool) → ltb p (length ws) ≡ b → Noise sync ws p (length ws)
+      by-end : (nextFrom sync ws (suc p) ≡ Found.End → Noise sync ws (suc p) (length ws)) → (b : Bool) → ltb p (length ws) ≡ b → Noise sync ws p (length ws)
       by-end more true l = by-check more (ltb-true p (length ws) l) (confirmed sync (drop p ws)) refl
       by-end more false l = let m : length ws ≤ p = ltb-false p (length ws) l in λ i a b. absurd (omega arith)
 
 -- ---- what a step of the search tells of the reading
 
 -- a chunk is listed at a place where none is in hand and one is confirmed
-pub listed-at-yes : (sync p : ℕ) (ws : List ℕ) → leftAt sync 0 p ws ≡ 0 → confirmed sync (drop p ws) ≡ true → listedAt sync p ws ≡ true
+pub listed-at-yes : (sync p : ℕ) (ws : List ℕ) → leftAt sync 0 ws p ≡ 0 → confirmed sync (drop p ws) ≡ true → listedAt sync ws p ≡ true
 unfolding listedAt
-listed-at-yes sync p ws z e = rw (eq-eqb (leftAt sync 0 p ws) 0 z, e)
+listed-at-yes sync p ws z e = rw (eq-eqb (leftAt sync 0 ws p) 0 z, e)
 
-pub listed-at-no : (sync p : ℕ) (ws : List ℕ) → confirmed sync (drop p ws) ≡ false → listedAt sync p ws ≡ false
+pub listed-at-no : (sync p : ℕ) (ws : List ℕ) → confirmed sync (drop p ws) ≡ false → listedAt sync ws p ≡ false
 unfolding listedAt
 listed-at-no sync p ws e = rw (e, and-false)
 
-pub listed-at-covered : (sync p : ℕ) (ws : List ℕ) → 0 < leftAt sync 0 p ws → listedAt sync p ws ≡ false
+pub listed-at-covered : (sync p : ℕ) (ws : List ℕ) → 0 < leftAt sync 0 ws p → listedAt sync ws p ≡ false
 unfolding listedAt
-listed-at-covered sync p ws h = rw (ne-eqb (leftAt sync 0 p ws) 0 (λ z. omega arith))
+listed-at-covered sync p ws h = rw (ne-eqb (leftAt sync 0 ws p) 0 (λ z. omega arith))
 
 -- The search from p finds the chunk e.
 pub record Next (sync : ℕ) (ws : List ℕ) (p : ℕ) (e : Entry) : Type 0 where
@@ -273,8 +273,8 @@ pub record Next (sync : ℕ) (ws : List ℕ) (p : ℕ) (e : Entry) : Type 0 wher
   pub lists : listed sync p 0 (drop p ws) ≡ e ∷ listed sync (past e) 0 (drop (past e) ws)
   pub skips : skippedFrom sync 0 (drop p ws) ≡ (e .position .0 - p) + skippedFrom sync 0 (drop (past e) ws)
   -- where no chunk is in hand at p, none is up to its first word, and inside it what is left of it
-  pub free : leftAt sync 0 p ws ≡ 0 → (i : ℕ) → p ≤ i → i ≤ e .position .0 → leftAt sync 0 i ws ≡ 0
-  pub inside : leftAt sync 0 p ws ≡ 0 → (i : ℕ) → e .position .0 < i → i ≤ past e → leftAt sync 0 i ws ≡ past e - i
+  pub free : leftAt sync 0 ws p ≡ 0 → (i : ℕ) → p ≤ i → i ≤ e .position .0 → leftAt sync 0 ws i ≡ 0
+  pub inside : leftAt sync 0 ws p ≡ 0 → (i : ℕ) → e .position .0 < i → i ≤ past e → leftAt sync 0 ws i ≡ past e - i
 
 -- The search from p finds none.
 pub record Last (sync : ℕ) (ws : List ℕ) (p : ℕ) : Type 0 where
@@ -283,7 +283,7 @@ pub record Last (sync : ℕ) (ws : List ℕ) (p : ℕ) : Type 0 where
   pub skips : skippedFrom sync 0 (drop p ws) ≡ length ws - p
 
 module _ (sync : ℕ) (ws : List ℕ) (p : ℕ) where
-  pub stepped : (e : Entry) → nextFrom sync p ws ≡ Found.Chunk e → Next sync ws p e
+  pub stepped : (e : Entry) → nextFrom sync ws p ≡ Found.Chunk e → Next sync ws p e
   stepped e f =
       let r : First sync ws p e = first sync ws (length ws) p e (omega arith) f in
       let q : ℕ = e .position .0 in
@@ -291,9 +291,9 @@ module _ (sync : ℕ) (ws : List ℕ) (p : ℕ) where
       let n : p + (q - p) ≡ q = omega (arith, r .ahead) in
       let b = hit-within sync ws q (r .there) (r .confirms) in
       let quiet : Noise sync ws p (p + (q - p)) = λ i a l. r .noise i a (omega arith) in
-      let clear : leftAt sync 0 p ws ≡ 0 → (i : ℕ) → p ≤ i → i ≤ q → leftAt sync 0 i ws ≡ 0 = λ z i a l.
+      let clear : leftAt sync 0 ws p ≡ 0 → (i : ℕ) → p ≤ i → i ≤ q → leftAt sync 0 ws i ≡ 0 = λ z i a l.
       let m : p + (i - p) ≡ i = omega arith in
-      ap (λ (k : ℕ). leftAt sync 0 k ws) (sym m) ∙ left-noise sync ws (i - p) p (omega (arith, r .there)) (λ j c d. r .noise j c (omega arith)) z in
+      ap (λ (k : ℕ). leftAt sync 0 ws k) (sym m) ∙ left-noise sync ws (i - p) p (omega (arith, r .there)) (λ j c d. r .noise j c (omega arith)) z in
       record {
         ahead = r .ahead;
         within = omega (arith, b .0, ap size h);
@@ -318,7 +318,7 @@ module _ (sync : ℕ) (ws : List ℕ) (p : ℕ) where
             ∙ ap (λ (x : Entry). past x - i) (sym (r .word));
       }
 
-  pub ended : nextFrom sync p ws ≡ Found.End → Last sync ws p
+  pub ended : nextFrom sync ws p ≡ Found.End → Last sync ws p
   unfolding listed skippedFrom
   ended f = record { noise = λ i a. silent i a (ltb i (length ws)) refl; lists = by-end (ltb p (length ws)) refl .0; skips = by-end (ltb p (length ws)) refl .1 }
     where

@@ -15,7 +15,7 @@ use Rattle.base.specs.Room.{put}
 use Rattle.base.proofs.Refused.{spared, answer-no, answer-yes, settled-refusal}
 use Rattle.base.proofs.RoomLaws.{put-put}
 use Rattle.chunk.specs.Header.{legalSize}
-use Rattle.chunk.specs.Writing.{writable, writeCauses, headerWord, writeReply, roomAfter}
+use Rattle.chunk.specs.Writing.{writable, writeCauses, headerWord, writeReply, writeRoom}
 use Rattle.chunk.proofs.Headers.{legal-size}
 
 -- a kind and a camera that a chunk may have
@@ -30,8 +30,8 @@ module _ (sync k c : ℕ) (p d : List ℕ) (r : Written) (e : r ≡ writeReply k
   number : r .refusal ≡ verdict (writeCauses k c (length p) (length d))
   number = ap (λ (x : Written). x .refusal) e ∙ settled-refusal (verdict (writeCauses k c (length p) (length d))) (length p + 2)
 
-  pub untouched : (r .refusal ≡ 0 → ⊥) → d ≡ roomAfter sync k c p d
-  unfolding roomAfter
+  pub untouched : (r .refusal ≡ 0 → ⊥) → d ≡ writeRoom sync k c p d
+  unfolding writeRoom
   untouched h = sym (answer-no _ _ _ (λ z. h (number ∙ z)))
 
   module _ (z : r .refusal ≡ 0) where
@@ -42,8 +42,8 @@ module _ (sync k c : ℕ) (p d : List ℕ) (r : Written) (e : r ≡ writeReply k
         let l = legal-size k (length p) (not-false (legalSize k (length p)) (s .1 .0)) in
         (b .0, b .1, omega (arith, l .1))
 
-    pub stored : (h : ℕ) → h ≡ headerWord k c (length p) → (a b : List ℕ) → a ≡ put (sync ∷ h ∷ []) 0 d → b ≡ put p 2 a → b ≡ roomAfter sync k c p d
-    unfolding roomAfter
+    pub stored : (h : ℕ) → h ≡ headerWord k c (length p) → (a b : List ℕ) → a ≡ put (sync ∷ h ∷ []) 0 d → b ≡ put p 2 a → b ≡ writeRoom sync k c p d
+    unfolding writeRoom
     stored h eh a b ea eb =
         let fits : length p + 2 ≤ length d = ltb-false _ _ (spared (writeCauses k c (length p) (length d)) refl (sym number ∙ z) .1 .1 .0) in
         eb

@@ -7,7 +7,7 @@ use lib.ListN.{replicate}
 use Rattle.base.specs.Refusal.{followsPaper}
 use Rattle.chunk.specs.Header.{legalSize, legal, headed, ends, confirmed}
 use Rattle.chunk.specs.Reading.{entry, listed, reading, skippedFrom, skipped}
-use Rattle.chunk.specs.Replies.{recordingCauses, placeCauses}
+use Rattle.chunk.specs.Replies.{surveyCauses, atCauses}
 use Rattle.chunk.specs.Writing.{writeCauses}
 
 -- 1: an empty recording has no chunk and 0 skipped words; one sync word is 1 skipped
@@ -39,10 +39,10 @@ unfolding listed skippedFrom confirmed ends headed legal legalSize
 listingRead = (refl, refl)
 
 -- each call's causes stand in the paper's order
-pub surveyOrder : (ws : List ℕ) → followsPaper (recordingCauses ws) ≡ true
+pub surveyOrder : (ws : List ℕ) → followsPaper (surveyCauses ws) ≡ true
 surveyOrder ws = refl
 
-pub placeOrder : (sync : ℕ) (ws : List ℕ) (place : ℕ) → followsPaper (placeCauses sync ws place) ≡ true
+pub placeOrder : (sync : ℕ) (ws : List ℕ) (place : ℕ) → followsPaper (atCauses sync ws place) ≡ true
 placeOrder sync ws place = refl
 
 pub writeOrder : (k c n room : ℕ) → followsPaper (writeCauses k c n room) ≡ true

@@ -46,15 +46,15 @@ listedWords [] = 0
 listedWords (e ∷ es) = span (e .header) + listedWords es
 
 -- The state of the reading at the place p: how many words are left there of a chunk that is listed already.
-unfoldable pub leftAt : ℕ → ℕ → ℕ → List ℕ → ℕ
-leftAt sync left zero ws = left
-leftAt sync left (suc p) [] = 0
-leftAt sync (suc left) (suc p) (w ∷ ws) = leftAt sync left p ws
-leftAt sync zero (suc p) (w ∷ ws) = leftAt sync (cond (confirmed sync (w ∷ ws)) (suc (size (getD ws 0 0))) 0) p ws
+unfoldable pub leftAt : ℕ → ℕ → List ℕ → ℕ → ℕ
+leftAt sync left ws zero = left
+leftAt sync left [] (suc p) = 0
+leftAt sync (suc left) (w ∷ ws) (suc p) = leftAt sync left ws p
+leftAt sync zero (w ∷ ws) (suc p) = leftAt sync (cond (confirmed sync (w ∷ ws)) (suc (size (getD ws 0 0))) 0) ws p
 
 -- a chunk is listed at the place p: no chunk that is listed before reaches over it, and one is confirmed there
-unfoldable pub listedAt : ℕ → ℕ → List ℕ → Bool
-listedAt sync p ws = eqb (leftAt sync 0 p ws) 0 && confirmed sync (drop p ws)
+unfoldable pub listedAt : ℕ → List ℕ → ℕ → Bool
+listedAt sync ws p = eqb (leftAt sync 0 ws p) 0 && confirmed sync (drop p ws)
 
 -- The search: one word at a time until a chunk is confirmed or no words are left. The first word stands at `at`.
 unfoldable pub found : ℕ → ℕ → List ℕ → Found
@@ -62,5 +62,5 @@ found sync at [] = Found.End
 found sync at (w ∷ ws) = elim (confirmed sync (w ∷ ws)) [ true ↦ Found.Chunk (entry at (getD ws 0 0)) | false ↦ found sync (suc at) ws ]
 
 -- the next confirmed chunk at or after the place p
-abbrev pub nextFrom : ℕ → ℕ → List ℕ → Found
-nextFrom sync p ws = found sync p (drop p ws)
+abbrev pub nextFrom : ℕ → List ℕ → ℕ → Found
+nextFrom sync ws p = found sync p (drop p ws)

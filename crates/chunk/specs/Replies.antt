@@ -7,41 +7,41 @@ use lib.Dec.{ltb}
 use Rattle.base.specs.Limit.{recordingLimit}
 use Rattle.base.specs.Refusal.{Causes, wrongLength, nothingThere, verdict, answer}
 use Rattle.chunk.specs.declared.Survey.{Survey}
-use Rattle.chunk.specs.declared.Chunk.{Chunk}
+use Rattle.chunk.specs.declared.Heading.{Heading}
 use Rattle.chunk.specs.Header.{size, camera, kind}
 use Rattle.chunk.specs.Reading.{reading, skipped, listedAt}
 
 -- a recording has at most 32,768 words: a longer one is 1
-abbrev pub recordingCauses : List ℕ → Causes
-recordingCauses ws = (wrongLength, ltb recordingLimit (length ws)) ∷ []
+abbrev pub surveyCauses : List ℕ → Causes
+surveyCauses ws = (wrongLength, ltb recordingLimit (length ws)) ∷ []
 
 abbrev pub surveyed : ℕ → ℕ → ℕ → Survey
 surveyed v chunks words = record { refusal = v; chunks = chunks; skipped = record { 0 = words } }
 
 -- the chunks and the skipped words of any words
-abbrev pub countOf : ℕ → List ℕ → Survey
-countOf sync ws = surveyed 0 (length (reading sync ws)) (skipped sync ws)
+abbrev pub countReply : ℕ → List ℕ → Survey
+countReply sync ws = surveyed 0 (length (reading sync ws)) (skipped sync ws)
 
 -- the survey of a recording: the number of its chunks and of its skipped words
-abbrev pub surveyOf : ℕ → List ℕ → Survey
-surveyOf sync ws = answer (verdict (recordingCauses ws)) (λ v. surveyed v 0 0) (countOf sync ws)
+abbrev pub surveyReply : ℕ → List ℕ → Survey
+surveyReply sync ws = answer (verdict (surveyCauses ws)) (λ v. surveyed v 0 0) (countReply sync ws)
 
 -- a place of a recording: 2 where no chunk is listed there
-abbrev pub placeCauses : ℕ → List ℕ → ℕ → Causes
-placeCauses sync ws place = (wrongLength, ltb recordingLimit (length ws)) ∷ (nothingThere, not (listedAt sync place ws)) ∷ []
+abbrev pub atCauses : ℕ → List ℕ → ℕ → Causes
+atCauses sync ws place = (wrongLength, ltb recordingLimit (length ws)) ∷ (nothingThere, not (listedAt sync ws place)) ∷ []
 
-abbrev pub chunkAnswer : ℕ → ℕ → ℕ → ℕ → Chunk
-chunkAnswer v k c n = record { refusal = v; kind = k; camera = c; size = record { 0 = n } }
+abbrev pub heading : ℕ → ℕ → ℕ → ℕ → Heading
+heading v k c n = record { refusal = v; kind = k; camera = c; size = record { 0 = n } }
 
 -- the fields of a header word
-abbrev pub fieldsOf : ℕ → Chunk
-fieldsOf h = chunkAnswer 0 (kind h) (camera h) (size h)
+abbrev pub headingOf : ℕ → Heading
+headingOf h = heading 0 (kind h) (camera h) (size h)
 
 -- the chunk at a place: kind, camera and size
-abbrev pub chunkAt : ℕ → List ℕ → ℕ → Chunk
-chunkAt sync ws place = answer (verdict (placeCauses sync ws place)) (λ v. chunkAnswer v 0 0 0) (fieldsOf (getD (drop place ws) 1 0))
+abbrev pub atReply : ℕ → List ℕ → ℕ → Heading
+atReply sync ws place = answer (verdict (atCauses sync ws place)) (λ v. heading v 0 0 0) (headingOf (getD (drop place ws) 1 0))
 
 -- the payload of the chunk at a place: the words after its header, as many as it says; none on a refusal
-abbrev pub payloadAt : ℕ → List ℕ → ℕ → List ℕ
-payloadAt sync ws place =
-    answer (verdict (placeCauses sync ws place)) (λ v. []) (take (size (getD (drop place ws) 1 0)) (drop 2 (drop place ws)))
+abbrev pub payloadReply : ℕ → List ℕ → ℕ → List ℕ
+payloadReply sync ws place =
+    answer (verdict (atCauses sync ws place)) (λ v. []) (take (size (getD (drop place ws) 1 0)) (drop 2 (drop place ws)))

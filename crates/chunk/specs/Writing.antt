@@ -30,6 +30,6 @@ abbrev pub writeReply : ℕ → ℕ → ℕ → ℕ → Written
 writeReply k c n room = settled (verdict (writeCauses k c n room)) (n + 2)
 
 -- the room after the call
-unfoldable pub roomAfter : ℕ → ℕ → ℕ → List ℕ → List ℕ → List ℕ
-roomAfter sync k c payload room =
+unfoldable pub writeRoom : ℕ → ℕ → ℕ → List ℕ → List ℕ → List ℕ
+writeRoom sync k c payload room =
     answer (verdict (writeCauses k c (length payload) (length room))) (λ v. room) (put (chunkOf sync k c payload) 0 room)

@@ -32,7 +32,7 @@ pub struct Survey {
 }
 
 // What stands in the header of a listed chunk.
-pub struct Chunk {
+pub struct Heading {
     pub refusal: u8,
     pub kind: u16,
     pub camera: u16,

@@ -1,6 +1,6 @@
 // The reading of a recording: its chunks counted, and one of them by its place.
-use crate::Chunk;
 use crate::Found;
+use crate::Heading;
 use crate::Survey;
 use crate::header;
 use crate::search;
@@ -13,11 +13,11 @@ ghost use lib.Dec.{ltb};
 ghost use Rattle.base.specs.Limit.{recordingLimit};
 ghost use Rattle.base.specs.Refusal.{verdict};
 ghost use Rattle.chunk.specs.Reading.{listedAt};
-ghost use Rattle.chunk.specs.Replies.{countOf, surveyOf, placeCauses, fieldsOf, chunkAt, payloadAt};
+ghost use Rattle.chunk.specs.Replies.{countReply, surveyReply, atCauses, headingOf, atReply, payloadReply};
 
 // The chunks and the skipped words of any words.
 pub fn count(words: &[u16], sync: u16) -> Survey
-    ensures { λ r. ⌜ r ≡ countOf sync (now (words .entry)) ⌝ }
+    ensures { λ r. ⌜ r ≡ countReply sync (now (words .entry)) ⌝ }
 {
     let mut chunks: usize = 0;
     let mut skipped: usize = 0;
@@ -47,7 +47,7 @@ fn too_long(recording: &[u16]) -> bool
 
 // The chunks and the skipped words of a recording.
 pub fn survey(recording: &[u16], sync: u16) -> Survey
-    ensures { λ r. ⌜ r ≡ surveyOf sync (now (recording .entry)) ⌝ }
+    ensures { λ r. ⌜ r ≡ surveyReply sync (now (recording .entry)) ⌝ }
 {
     if too_long(recording) {
         return Survey {
@@ -61,7 +61,7 @@ pub fn survey(recording: &[u16], sync: u16) -> Survey
 
 // Whether a chunk is listed at a place: the reading is followed up to it.
 pub fn is_listed(words: &[u16], sync: u16, place: Words) -> bool
-    ensures { λ r. ⌜ r ≡ listedAt sync (place .0) (now (words .entry)) ⌝ }
+    ensures { λ r. ⌜ r ≡ listedAt sync (now (words .entry)) (place .0) ⌝ }
 {
     let asked = place.0;
     let mut at = 0;
@@ -84,7 +84,7 @@ pub fn is_listed(words: &[u16], sync: u16, place: Words) -> bool
 
 // The refusal number for a place of a recording.
 fn judge(recording: &[u16], sync: u16, place: Words) -> u8
-    ensures { λ r. ⌜ r ≡ verdict (placeCauses sync (now (recording .entry)) (place .0)) ⌝ }
+    ensures { λ r. ⌜ r ≡ verdict (atCauses sync (now (recording .entry)) (place .0)) ⌝ }
 {
     if too_long(recording) {
         return refusal::LENGTH;
@@ -97,10 +97,10 @@ fn judge(recording: &[u16], sync: u16, place: Words) -> u8
 }
 
 // The fields of a header word.
-fn fields(word: u16) -> Chunk
-    ensures { λ r. ⌜ r ≡ fieldsOf word ⌝ }
+fn heading_of(word: u16) -> Heading
+    ensures { λ r. ⌜ r ≡ headingOf word ⌝ }
 {
-    Chunk {
+    Heading {
         refusal: 0,
         kind: header::kind_of(word),
         camera: header::camera_of(word),
@@ -109,25 +109,25 @@ fn fields(word: u16) -> Chunk
 }
 
 // The chunk listed at a place.
-pub fn at(recording: &[u16], sync: u16, place: Words) -> Chunk
-    ensures { λ r. ⌜ r ≡ chunkAt sync (now (recording .entry)) (place .0) ⌝ }
+pub fn at(recording: &[u16], sync: u16, place: Words) -> Heading
+    ensures { λ r. ⌜ r ≡ atReply sync (now (recording .entry)) (place .0) ⌝ }
 {
     let begins = place.0;
     let verdict = judge(recording, sync, place);
     if verdict != 0 {
-        return Chunk {
+        return Heading {
             refusal: verdict,
             kind: 0,
             camera: 0,
             size: Words(0),
         };
     }
-    fields(recording[begins + 1])
+    heading_of(recording[begins + 1])
 }
 
 // The payload of the chunk listed at a place, as a part of the recording; empty where `at` refuses.
 pub fn payload(recording: &[u16], sync: u16, place: Words) -> &[u16]
-    ensures { λ r. ⌜ now r ≡ payloadAt sync (now (recording .entry)) (place .0) ⌝ }
+    ensures { λ r. ⌜ now r ≡ payloadReply sync (now (recording .entry)) (place .0) ⌝ }
 {
     let begins = place.0;
     let chunk = at(recording, sync, place);

@@ -9,7 +9,7 @@ ghost use Rattle.chunk.specs.Reading.{nextFrom};
 
 // The next confirmed chunk at or after a place. In a stretch of noise each word is looked at once.
 pub fn next(words: &[u16], sync: u16, from: Words) -> Found
-    ensures { λ r. ⌜ r ≡ nextFrom sync (from .0) (now (words .entry)) ⌝ }
+    ensures { λ r. ⌜ r ≡ nextFrom sync (now (words .entry)) (from .0) ⌝ }
 {
     let mut at = from.0;
     let found = loop {

@@ -7,7 +7,7 @@ use base::room;
 ghost use mathlib.Core.Path.{_≡_};
 ghost use Prim.Native.Nat.{_≤_};
 ghost use lib.ListN.{length};
-ghost use Rattle.chunk.specs.Writing.{writable, headerWord, writeReply, roomAfter};
+ghost use Rattle.chunk.specs.Writing.{writable, headerWord, writeReply, writeRoom};
 
 fn is_writable(kind: u16, camera: u16) -> bool
     ensures { λ r. ⌜ r ≡ writable kind camera ⌝ }
@@ -43,7 +43,7 @@ fn header_word(kind: u16, camera: u16, size: u16) -> u16
 // A chunk, written to the front of the room.
 pub fn write_chunk(sync: u16, kind: u16, camera: u16, payload: &[u16], room: &mut [u16]) -> Written
     ensures { λ r. ⌜ r ≡ writeReply kind camera (length (now (payload .entry))) (length (now (room .entry))) ⌝ }
-    ensures { λ _. ⌜ now (room .exit) ≡ roomAfter sync kind camera (now (payload .entry)) (now (room .entry)) ⌝ }
+    ensures { λ _. ⌜ now (room .exit) ≡ writeRoom sync kind camera (now (payload .entry)) (now (room .entry)) ⌝ }
 {
     let reply = plan(kind, camera, payload, room.len());
     if reply.refusal != 0 {

@@ -1,5 +1,5 @@
 -- The reading by place. At the place p the reading of `ws` goes on as a reading of `drop p ws` with what is left there of a chunk (`leftAt`): so goes
--- the list (`reading-from`), and a chunk is listed at p exactly if its entry stands in the list (`listed-place`, `place-listed`). Assumes nothing.
+-- the list (`reading-from`), and a chunk is listed at p exactly if its entry stands in the list (`listed-place`, `place-listed`).
 use mathlib.Core.Path.{_≡_, refl, ap, _∙_}
 use mathlib.Core.Bool.{Bool, true, false, cond, false≢true}
 use mathlib.Core.List.{List, [], _∷_}
@@ -33,12 +33,12 @@ skip-step sync w ws true e = rw (e, skippedFrom)
 skip-step sync w ws false e = rw (e, skippedFrom)
 
 pub left-step : (sync p w : ℕ) (ws : List ℕ) (b : Bool) → confirmed sync (w ∷ ws) ≡ b
-    → leftAt sync 0 (suc p) (w ∷ ws) ≡ leftAt sync (cond b (suc (size (getD ws 0 0))) 0) p ws
+    → leftAt sync 0 (w ∷ ws) (suc p) ≡ leftAt sync (cond b (suc (size (getD ws 0 0))) 0) ws p
 unfolding leftAt
-left-step sync p w ws b e = ap (λ (x : Bool). leftAt sync (cond x (suc (size (getD ws 0 0))) 0) p ws) e
+left-step sync p w ws b e = ap (λ (x : Bool). leftAt sync (cond x (suc (size (getD ws 0 0))) 0) ws p) e
 
 -- where the chunk in hand ends none is left
-pub left-end : (sync left : ℕ) (ws : List ℕ) → leftAt sync left left ws ≡ 0
+pub left-end : (sync left : ℕ) (ws : List ℕ) → leftAt sync left ws left ≡ 0
 unfolding leftAt
 left-end sync zero ws = refl
 left-end sync (suc left) [] = refl
@@ -65,7 +65,7 @@ from-start sync p at zero (w ∷ ws) h =
     (λ e. rw (list-step sync at w ws true e) (from-past p (entry at (getD ws 0 0)) (listed sync (suc at) (suc (size (getD ws 0 0))) ws) h))
     (λ e. rw (list-step sync at w ws false e) (from-start sync p (suc at) 0 ws (omega arith)))
 
-from-at : (sync at left p : ℕ) (ws : List ℕ) → from (at + p) (listed sync at left ws) ≡ listed sync (at + p) (leftAt sync left p ws) (drop p ws)
+from-at : (sync at left p : ℕ) (ws : List ℕ) → from (at + p) (listed sync at left ws) ≡ listed sync (at + p) (leftAt sync left ws p) (drop p ws)
 unfolding from listed leftAt
 from-at sync at left zero ws = rw (add-zero at) (from-start sync at at left ws (omega arith))
 from-at sync at left (suc p) [] = refl
@@ -77,7 +77,7 @@ from-at sync at zero (suc p) (w ∷ ws) =
     ∙ from-at sync (suc at) (suc (size (getD ws 0 0))) p ws))
     (λ e. rw (list-step sync at w ws false e, left-step sync p w ws false e) (from-at sync (suc at) 0 p ws)))
 
-pub reading-from : (sync p : ℕ) (ws : List ℕ) → from p (reading sync ws) ≡ listed sync p (leftAt sync 0 p ws) (drop p ws)
+pub reading-from : (sync p : ℕ) (ws : List ℕ) → from p (reading sync ws) ≡ listed sync p (leftAt sync 0 ws p) (drop p ws)
 reading-from sync p ws = rw (zero-add p) at (from-at sync 0 0 p ws)
 
 -- ---- positions count from where reading begins
@@ -104,11 +104,11 @@ not-empty : (sync : ℕ) → confirmed sync [] ≡ true → ⊥
 unfolding confirmed headed
 not-empty sync e = false≢true e
 
-pub place-listed : (sync p : ℕ) (ws : List ℕ) → listedAt sync p ws ≡ true → entry p (getD (drop p ws) 1 0) ∈ reading sync ws
+pub place-listed : (sync p : ℕ) (ws : List ℕ) → listedAt sync ws p ≡ true → entry p (getD (drop p ws) 1 0) ∈ reading sync ws
 unfolding listedAt
 place-listed sync p ws h =
-    let z : leftAt sync 0 p ws ≡ 0 = eqb-true (leftAt sync 0 p ws) 0 (and-left (eqb (leftAt sync 0 p ws) 0) _ h) in
-    let c : confirmed sync (drop p ws) ≡ true = and-right (eqb (leftAt sync 0 p ws) 0) _ h in
+    let z : leftAt sync 0 ws p ≡ 0 = eqb-true (leftAt sync 0 ws p) 0 (and-left (eqb (leftAt sync 0 ws p) 0) _ h) in
+    let c : confirmed sync (drop p ws) ≡ true = and-right (eqb (leftAt sync 0 ws p) 0) _ h in
     let f : from p (reading sync ws) ≡ listed sync p 0 (drop p ws) = rw z at (reading-from sync p ws) in
     from-part p (entry p (getD (drop p ws) 1 0)) (reading sync ws) (rw f (front p (drop p ws) c))
   where
@@ -120,7 +120,7 @@ place-listed sync p ws h =
 record Placed (sync at left : ℕ) (ws : List ℕ) (e : Entry) : Type 0 where
   place : ℕ
   is : e ≡ entry (at + place) (getD (drop place ws) 1 0)
-  free : leftAt sync left place ws ≡ 0
+  free : leftAt sync left ws place ≡ 0
   there : confirmed sync (drop place ws) ≡ true
 
 placed : (sync at left : ℕ) (ws : List ℕ) (e : Entry) → e ∈ listed sync at left ws → Placed sync at left ws e
@@ -152,7 +152,7 @@ placed sync at zero (w ∷ ws) e h =
         }
 
 pub listed-place : (sync : ℕ) (ws : List ℕ) (e : Entry) → e ∈ reading sync ws
-    → (listedAt sync (e .position .0) ws ≡ true) × (e .header ≡ getD (drop (e .position .0) ws) 1 0)
+    → (listedAt sync ws (e .position .0) ≡ true) × (e .header ≡ getD (drop (e .position .0) ws) 1 0)
 listed-place sync ws e h =
     let t : Placed sync 0 0 ws e = placed sync 0 0 ws e h in
     let n : e .position .0 ≡ t .place = ap (λ (x : Entry). x .position .0) (t .is) ∙ zero-add (t .place) in

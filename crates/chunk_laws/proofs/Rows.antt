@@ -1,5 +1,5 @@
 -- A row of whole chunks from the first word on is listed whole, with no word skipped: reading goes from the end of a chunk to the next, so what
--- stands inside the payloads does not matter. A written chunk, alone or before another, is such a row. Assumes nothing.
+-- stands inside the payloads does not matter. A written chunk, alone or before another, is such a row.
 use mathlib.Core.Path.{_≡_, refl, ap, _∙_}
 use mathlib.Core.Bool.{true}
 use mathlib.Core.List.{List, [], _∷_, _++_, append-assoc}
@@ -15,23 +15,23 @@ use Rattle.chunk.specs.declared.Entry.{Entry}
 use Rattle.chunk.specs.Header.{size, span, legal, headed, ends, confirmed}
 use Rattle.chunk.specs.Reading.{entry, listed, skippedFrom, skipped, leftAt, listedAt}
 use Rattle.chunk.proofs.Steps.{listed-on, skipped-on, left-split, listed-at-yes}
-use Rattle.chunk_laws.specs.Stretch.{Chunk, words, offset, entries, whole, wholeRow}
+use Rattle.chunk_laws.specs.Stretch.{Laid, words, offset, entries, whole, wholeRow}
 use Rattle.chunk_laws.proofs.Tests.{and-both, or-right}
 use Rattle.chunk_laws.proofs.ByPlace.{list-step, skip-step, left-step, left-end}
 
 -- ---- what a whole chunk has
 
-pub fair : (c : Chunk) → whole c ≡ true → legal (c .header) ≡ true
+pub fair : (c : Laid) → whole c ≡ true → legal (c .header) ≡ true
 fair c k = and-left (legal (c .header)) _ k
 
-pub long : (c : Chunk) → whole c ≡ true → length (c .payload) ≡ size (c .header)
+pub long : (c : Laid) → whole c ≡ true → length (c .payload) ≡ size (c .header)
 long c k = eqb-true (length (c .payload)) (size (c .header)) (and-right (legal (c .header)) _ k)
 
-pub row-first : (c : Chunk) (cs : List Chunk) → wholeRow (c ∷ cs) ≡ true → whole c ≡ true
+pub row-first : (c : Laid) (cs : List Laid) → wholeRow (c ∷ cs) ≡ true → whole c ≡ true
 unfolding wholeRow
 row-first c cs k = and-left (whole c) _ k
 
-pub row-rest : (c : Chunk) (cs : List Chunk) → wholeRow (c ∷ cs) ≡ true → wholeRow cs ≡ true
+pub row-rest : (c : Laid) (cs : List Laid) → wholeRow (c ∷ cs) ≡ true → wholeRow cs ≡ true
 unfolding wholeRow
 row-rest c cs k = and-right (whole c) _ k
 
@@ -46,17 +46,17 @@ ends-past sync k [] ws = rw zero-add
 ends-past sync k (x ∷ xs) ws = rw (suc-add (length xs) k, ends-step) (ends-past sync k xs ws)
 
 -- a legal header stands where a whole chunk does
-pub headed-here : (sync : ℕ) (c : Chunk) (ws : List ℕ) → whole c ≡ true → headed sync (sync ∷ c .header ∷ ws) ≡ true
+pub headed-here : (sync : ℕ) (c : Laid) (ws : List ℕ) → whole c ≡ true → headed sync (sync ∷ c .header ∷ ws) ≡ true
 unfolding headed
 headed-here sync c ws k = and-both (eqb sync sync) _ (eq-eqb sync sync refl) (fair c k)
 
 -- what stands where a chunk of the row ends: the recording's end, or the next chunk's header
-ends-here : (sync : ℕ) (cs : List Chunk) → wholeRow cs ≡ true → ends sync 0 (words sync cs) ≡ true
+ends-here : (sync : ℕ) (cs : List Laid) → wholeRow cs ≡ true → ends sync 0 (words sync cs) ≡ true
 unfolding ends
 ends-here sync [] k = refl
 ends-here sync (c ∷ cs) k = or-right (eqb 0 (offset sync (c ∷ cs))) _ (headed-here sync c (c .payload ++ words sync cs) (row-first c cs k))
 
-pub row-confirmed : (sync : ℕ) (c : Chunk) (cs : List Chunk) → wholeRow (c ∷ cs) ≡ true → confirmed sync (words sync (c ∷ cs)) ≡ true
+pub row-confirmed : (sync : ℕ) (c : Laid) (cs : List Laid) → wholeRow (c ∷ cs) ≡ true → confirmed sync (words sync (c ∷ cs)) ≡ true
 unfolding confirmed
 row-confirmed sync c cs k =
     let ws : List ℕ = words sync cs in
@@ -66,15 +66,15 @@ row-confirmed sync c cs k =
     (ap (λ (m : ℕ). ends sync m (words sync (c ∷ cs))) n ∙ ends-past sync 0 (sync ∷ c .header ∷ c .payload) ws ∙ ends-here sync cs (row-rest c cs k))
 
 -- the words after the first chunk
-pub row-drop : (sync : ℕ) (c : Chunk) (cs : List Chunk) → whole c ≡ true → drop (size (c .header)) (c .payload ++ words sync cs) ≡ words sync cs
+pub row-drop : (sync : ℕ) (c : Laid) (cs : List Laid) → whole c ≡ true → drop (size (c .header)) (c .payload ++ words sync cs) ≡ words sync cs
 row-drop sync c cs k = drop-at (c .payload) (words sync cs) (size (c .header)) (long c k)
 
-within-row : (sync : ℕ) (c : Chunk) (cs : List Chunk) → whole c ≡ true → size (c .header) ≤ length (c .payload ++ words sync cs)
+within-row : (sync : ℕ) (c : Laid) (cs : List Laid) → whole c ≡ true → size (c .header) ≤ length (c .payload ++ words sync cs)
 within-row sync c cs k = omega (arith, length-append (c .payload) (words sync cs), long c k)
 
 -- ---- the row is listed whole
 
-pub lists-row : (sync at : ℕ) (cs : List Chunk) → wholeRow cs ≡ true → listed sync at 0 (words sync cs) ≡ entries at cs
+pub lists-row : (sync at : ℕ) (cs : List Laid) → wholeRow cs ≡ true → listed sync at 0 (words sync cs) ≡ entries at cs
 unfolding listed
 lists-row sync at [] k = refl
 lists-row sync at (c ∷ cs) k =
@@ -85,7 +85,7 @@ lists-row sync at (c ∷ cs) k =
     (rw (listed-on sync (suc (suc at)) (size (c .header)) (c .payload ++ words sync cs) (within-row sync c cs t), row-drop sync c cs t, n)
     (lists-row sync (at + span (c .header)) cs (row-rest c cs k)))
 
-pub skips-none : (sync : ℕ) (cs : List Chunk) → wholeRow cs ≡ true → skipped sync (words sync cs) ≡ 0
+pub skips-none : (sync : ℕ) (cs : List Laid) → wholeRow cs ≡ true → skipped sync (words sync cs) ≡ 0
 unfolding skippedFrom
 skips-none sync [] k = refl
 skips-none sync (c ∷ cs) k =
@@ -96,47 +96,47 @@ skips-none sync (c ∷ cs) k =
 
 -- ---- a chunk inside a row
 
-pub words-parts : (sync : ℕ) (before after : List Chunk) → words sync (before ++ after) ≡ words sync before ++ words sync after
+pub words-parts : (sync : ℕ) (before after : List Laid) → words sync (before ++ after) ≡ words sync before ++ words sync after
 words-parts sync [] after = refl
 words-parts sync (c ∷ before) after = rw (words-parts sync before after, append-assoc (c .payload) (words sync before) (words sync after))
 
 -- the words from a chunk of the row on
-pub row-at : (sync : ℕ) {cs : List Chunk} (before after : List Chunk) → cs ≡ before ++ after
+pub row-at : (sync : ℕ) {cs : List Laid} (before after : List Laid) → cs ≡ before ++ after
     → drop (offset sync before) (words sync cs) ≡ words sync after
 row-at sync before after e = rw (e, words-parts sync before after) (drop-append-seam (words sync before) (words sync after))
 
-pub row-after : (before after : List Chunk) → wholeRow (before ++ after) ≡ true → wholeRow after ≡ true
+pub row-after : (before after : List Laid) → wholeRow (before ++ after) ≡ true → wholeRow after ≡ true
 row-after [] after k = k
 row-after (c ∷ before) after k = row-after before after (row-rest c (before ++ after) k)
 
 -- the payload of a chunk, as the words from its place on have it
-pub payload-there : (sync : ℕ) (c : Chunk) (cs : List Chunk) → whole c ≡ true → take (size (c .header)) (drop 2 (words sync (c ∷ cs))) ≡ c .payload
+pub payload-there : (sync : ℕ) (c : Laid) (cs : List Laid) → whole c ≡ true → take (size (c .header)) (drop 2 (words sync (c ∷ cs))) ≡ c .payload
 payload-there sync c cs k = take-at (c .payload) (words sync cs) (size (c .header)) (long c k)
 
 -- ---- the state of the reading in a row: no words are left where a chunk begins, and there one is listed
 
-pub left-rest : (sync : ℕ) (c : Chunk) (cs : List Chunk) → wholeRow (c ∷ cs) ≡ true → (k : ℕ)
-    → leftAt sync 0 (span (c .header) + k) (words sync (c ∷ cs)) ≡ leftAt sync 0 k (words sync cs)
+pub left-rest : (sync : ℕ) (c : Laid) (cs : List Laid) → wholeRow (c ∷ cs) ≡ true → (k : ℕ)
+    → leftAt sync 0 (words sync (c ∷ cs)) (span (c .header) + k) ≡ leftAt sync 0 (words sync cs) k
 left-rest sync c cs t k =
     let inner : List ℕ = c .header ∷ (c .payload ++ words sync cs) in
     let n : ℕ = suc (size (c .header)) in
     left-split sync 0 (span (c .header)) k (words sync (c ∷ cs))
     ∙ rw (left-step sync n sync inner true (row-confirmed sync c cs t) ∙ left-end sync n inner, row-drop sync c cs (row-first c cs t))
 
-offset-cons : (sync : ℕ) (c : Chunk) (cs : List Chunk) → whole c ≡ true → offset sync (c ∷ cs) ≡ span (c .header) + offset sync cs
+offset-cons : (sync : ℕ) (c : Laid) (cs : List Laid) → whole c ≡ true → offset sync (c ∷ cs) ≡ span (c .header) + offset sync cs
 offset-cons sync c cs k = omega (arith, length-append (c .payload) (words sync cs), long c k)
 
-left-row : (sync : ℕ) (before after : List Chunk) → wholeRow (before ++ after) ≡ true
-    → leftAt sync 0 (offset sync before) (words sync (before ++ after)) ≡ 0
+left-row : (sync : ℕ) (before after : List Laid) → wholeRow (before ++ after) ≡ true
+    → leftAt sync 0 (words sync (before ++ after)) (offset sync before) ≡ 0
 unfolding leftAt
 left-row sync [] after k = refl
 left-row sync (c ∷ before) after k =
-    ap (λ (n : ℕ). leftAt sync 0 n (words sync (c ∷ before ++ after))) (offset-cons sync c before (row-first c (before ++ after) k))
+    ap (λ (n : ℕ). leftAt sync 0 (words sync (c ∷ before ++ after)) n) (offset-cons sync c before (row-first c (before ++ after) k))
     ∙ left-rest sync c (before ++ after) k (offset sync before)
     ∙ left-row sync before after (row-rest c (before ++ after) k)
 
-pub row-listed : (sync : ℕ) (before : List Chunk) (c : Chunk) (after : List Chunk) → wholeRow (before ++ c ∷ after) ≡ true
-    → listedAt sync (offset sync before) (words sync (before ++ c ∷ after)) ≡ true
+pub row-listed : (sync : ℕ) (before : List Laid) (c : Laid) (after : List Laid) → wholeRow (before ++ c ∷ after) ≡ true
+    → listedAt sync (words sync (before ++ c ∷ after)) (offset sync before) ≡ true
 row-listed sync before c after k =
     listed-at-yes sync (offset sync before) (words sync (before ++ c ∷ after)) (left-row sync before (c ∷ after) k)
     (ap (confirmed sync) (row-at sync before (c ∷ after) refl) ∙ row-confirmed sync c after (row-after before (c ∷ after) k))

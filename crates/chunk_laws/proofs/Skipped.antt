@@ -1,5 +1,5 @@
 -- Skipped words are those at places inside no listed chunk: with `left` words of a chunk in hand at the place `at`, the places that are covered are
--- the next `left` and those inside the chunks that are listed from there on. Assumes nothing.
+-- the next `left` and those inside the chunks that are listed from there on.
 use mathlib.Core.Path.{_≡_, refl, sym, ap, _∙_}
 use mathlib.Core.Bool.{Bool, true, false, _||_}
 use mathlib.Core.List.{List, [], _∷_}

@@ -1,5 +1,5 @@
 -- A stretch in whose chunks no legal header begins: a chunk that ends in it ends where one of its own begins or with the stretch, and there no words
--- are left of a chunk when the stretch is read alone. A clean stretch is such a one. Assumes nothing.
+-- are left of a chunk when the stretch is read alone. A clean stretch is such a one.
 use mathlib.Core.Path.{_≡_, refl, sym, ap, _∙_}
 use mathlib.Core.Bool.{Bool, true, false, cond, not, _&&_, false≢true}
 use mathlib.Core.List.{List, [], _∷_, _++_}
@@ -16,7 +16,7 @@ use Rattle.base.proofs.Booleans.{and-left, and-right, or-cases}
 use Rattle.chunk.specs.Header.{size, span, kind, imageSize, healthSize, legalSize, legal, headed, ends}
 use Rattle.chunk.specs.Reading.{reading, leftAt}
 use Rattle.chunk.proofs.Headers.{legal-bounds}
-use Rattle.chunk_laws.specs.Stretch.{Chunk, words, offset, entries, whole, wholeRow, lacks, clean, headless, unbroken}
+use Rattle.chunk_laws.specs.Stretch.{Laid, words, offset, entries, whole, wholeRow, lacks, clean, headless, unbroken}
 use Rattle.chunk_laws.proofs.Tests.{and-both}
 use Rattle.chunk_laws.proofs.Rows.{long, ends-past, lists-row, left-rest}
 
@@ -57,7 +57,7 @@ lacks-headless sync (x ∷ xs) ws k =
     rw (headed-sync sync x (xs ++ ws) (not-true (eqb x sync) (and-left (not (eqb x sync)) _ k)))
     (lacks-headless sync xs ws (and-right (not (eqb x sync)) _ k))
 
-pub clean-unbroken : (sync : ℕ) (cs : List Chunk) → clean sync cs ≡ true → unbroken sync cs ≡ true
+pub clean-unbroken : (sync : ℕ) (cs : List Laid) → clean sync cs ≡ true → unbroken sync cs ≡ true
 unfolding clean unbroken
 clean-unbroken sync [] k = refl
 clean-unbroken sync (c ∷ cs) k =
@@ -69,29 +69,29 @@ clean-unbroken sync (c ∷ cs) k =
 
 -- ---- what a stretch with no header inside its chunks has
 
-first-whole : (sync : ℕ) (c : Chunk) (cs : List Chunk) → unbroken sync (c ∷ cs) ≡ true → whole c ≡ true
+first-whole : (sync : ℕ) (c : Laid) (cs : List Laid) → unbroken sync (c ∷ cs) ≡ true → whole c ≡ true
 unfolding unbroken
 first-whole sync c cs k = and-left (whole c) _ (and-left (whole c && _) _ k)
 
-rest-unbroken : (sync : ℕ) (c : Chunk) (cs : List Chunk) → unbroken sync (c ∷ cs) ≡ true → unbroken sync cs ≡ true
+rest-unbroken : (sync : ℕ) (c : Laid) (cs : List Laid) → unbroken sync (c ∷ cs) ≡ true → unbroken sync cs ≡ true
 unfolding unbroken
 rest-unbroken sync c cs k = and-right (whole c && headless sync (suc (length (c .payload))) (c .header ∷ (c .payload ++ words sync cs))) _ k
 
-pub unbroken-row : (sync : ℕ) (cs : List Chunk) → unbroken sync cs ≡ true → wholeRow cs ≡ true
+pub unbroken-row : (sync : ℕ) (cs : List Laid) → unbroken sync cs ≡ true → wholeRow cs ≡ true
 unfolding wholeRow
 unbroken-row sync [] k = refl
 unbroken-row sync (c ∷ cs) k = and-both (whole c) _ (first-whole sync c cs k) (unbroken-row sync cs (rest-unbroken sync c cs k))
 
 -- alone, such a stretch is listed whole
-pub stretch-alone : (sync : ℕ) (cs : List Chunk) → unbroken sync cs ≡ true → reading sync (words sync cs) ≡ entries 0 cs
+pub stretch-alone : (sync : ℕ) (cs : List Laid) → unbroken sync cs ≡ true → reading sync (words sync cs) ≡ entries 0 cs
 stretch-alone sync cs k = lists-row sync 0 cs (unbroken-row sync cs k)
 
-pub unbroken-after : (sync : ℕ) (before after : List Chunk) → unbroken sync (before ++ after) ≡ true → unbroken sync after ≡ true
+pub unbroken-after : (sync : ℕ) (before after : List Laid) → unbroken sync (before ++ after) ≡ true → unbroken sync after ≡ true
 unbroken-after sync [] after k = k
 unbroken-after sync (c ∷ before) after k = unbroken-after sync before after (rest-unbroken sync c (before ++ after) k)
 
 -- no chunk ends inside the first chunk of the stretch
-pub not-inside : (sync : ℕ) (c : Chunk) (cs : List Chunk) → unbroken sync (c ∷ cs) ≡ true → (n : ℕ) → 0 < n → n < span (c .header)
+pub not-inside : (sync : ℕ) (c : Laid) (cs : List Laid) → unbroken sync (c ∷ cs) ≡ true → (n : ℕ) → 0 < n → n < span (c .header)
     → ends sync n (words sync (c ∷ cs)) ≡ true → ⊥
 unfolding unbroken ends
 not-inside sync c cs k zero some few e = absurd (omega arith)
@@ -105,25 +105,25 @@ not-inside sync c cs k (suc i) some few e =
     ]
 
 -- past the first chunk it ends in the rest
-ends-rest : (sync : ℕ) (c : Chunk) (cs : List Chunk) → whole c ≡ true → (k : ℕ)
+ends-rest : (sync : ℕ) (c : Laid) (cs : List Laid) → whole c ≡ true → (k : ℕ)
     → ends sync (span (c .header) + k) (words sync (c ∷ cs)) ≡ ends sync k (words sync cs)
 ends-rest sync c cs t k =
     ap (λ (n : ℕ). ends sync n (words sync (c ∷ cs))) (omega (arith, long c t)) ∙ ends-past sync k (sync ∷ c .header ∷ c .payload) (words sync cs)
 
 -- where a chunk ends in the stretch, no words are left of one that is listed when the stretch is read alone
-pub boundary : (sync : ℕ) (cs : List Chunk) → unbroken sync cs ≡ true → (n : ℕ) → ends sync n (words sync cs) ≡ true
-    → leftAt sync 0 n (words sync cs) ≡ 0
+pub boundary : (sync : ℕ) (cs : List Laid) → unbroken sync cs ≡ true → (n : ℕ) → ends sync n (words sync cs) ≡ true
+    → leftAt sync 0 (words sync cs) n ≡ 0
 unfolding leftAt
 boundary sync [] k zero e = refl
 boundary sync [] k (suc n) e = refl
 boundary sync (c ∷ cs) k zero e = refl
 boundary sync (c ∷ cs) k (suc i) e =
-    elim (decLt (suc i) (span (c .header))) as (λ x. leftAt sync 0 (suc i) (words sync (c ∷ cs)) ≡ 0) [
+    elim (decLt (suc i) (span (c .header))) as (λ x. leftAt sync 0 (words sync (c ∷ cs)) (suc i) ≡ 0) [
       | yes h ↦ absurd (not-inside sync c cs k (suc i) (omega arith) h e)
       | no h ↦
           let m : ℕ = suc i - span (c .header) in
           let n : suc i ≡ span (c .header) + m = omega arith in
           let e′ : ends sync m (words sync cs) ≡ true = sym (ends-rest sync c cs (first-whole sync c cs k) m) ∙ (rw n at e) in
-          ap (λ (x : ℕ). leftAt sync 0 x (words sync (c ∷ cs))) n
+          ap (λ (x : ℕ). leftAt sync 0 (words sync (c ∷ cs)) x) n
           ∙ left-rest sync c cs (unbroken-row sync (c ∷ cs) k) m ∙ boundary sync cs (rest-unbroken sync c cs k) m e′
     ]

@@ -1,4 +1,4 @@
--- Laws of tests beside those of the crate `chunk`. Assumes nothing.
+-- Laws of tests beside those of the crate `chunk`.
 use mathlib.Core.Path.{_≡_, refl}
 use mathlib.Core.Bool.{Bool, true, false, _&&_, _||_}
 

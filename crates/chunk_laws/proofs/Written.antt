@@ -1,5 +1,5 @@
 -- A written chunk is given back by the reading, alone and before another: the fields of its header word are those it was made of, so it is a whole
--- chunk, and a row of whole chunks is listed whole. Assumes nothing.
+-- chunk, and a row of whole chunks is listed whole.
 use mathlib.Core.Path.{_≡_, refl, sym, ap, _∙_}
 use mathlib.Core.Bool.{true, _&&_, _||_}
 use mathlib.Core.List.{List, [], _∷_, _++_, append-nil}
@@ -16,17 +16,17 @@ use Rattle.base.specs.Refusal.{verdict}
 use Rattle.base.proofs.Refused.{spared, answer-yes}
 use Rattle.chunk.specs.Header.{size, camera, kind, span, legalSize, legal}
 use Rattle.chunk.specs.Reading.{entry}
-use Rattle.chunk.specs.Replies.{placeCauses, chunkAnswer, fieldsOf, chunkAt, payloadAt}
+use Rattle.chunk.specs.Replies.{atCauses, heading, headingOf, atReply, payloadReply}
 use Rattle.chunk.specs.Writing.{writable, writeCauses, headerWord}
 use Rattle.chunk.proofs.Headers.{legal-size}
-use Rattle.chunk_laws.specs.Stretch.{Chunk, words, offset, whole, wholeRow}
+use Rattle.chunk_laws.specs.Stretch.{Laid, words, offset, whole, wholeRow}
 use Rattle.chunk_laws.specs.Written.{accepted, written, Holds, Alone, Followed}
 use Rattle.chunk_laws.proofs.Tests.{and-both, or-right}
 use Rattle.chunk_laws.proofs.ByPlace.{place-listed, listed-place}
 use Rattle.chunk_laws.proofs.Rows.{long, row-first, row-after, row-at, row-listed, payload-there, lists-row, skips-none}
 
 -- a row of whole chunks gives each of them back, where it stands
-pub row-holds : (sync : ℕ) (before : List Chunk) (c : Chunk) (after : List Chunk) → wholeRow (before ++ c ∷ after) ≡ true
+pub row-holds : (sync : ℕ) (before : List Laid) (c : Laid) (after : List Laid) → wholeRow (before ++ c ∷ after) ≡ true
     → Holds sync (words sync (before ++ c ∷ after)) (offset sync before) (kind (c .header)) (camera (c .header)) (c .payload)
 row-holds sync before c after k =
     let p : ℕ = offset sync before in
@@ -88,7 +88,7 @@ accepted-written k c room payload z =
 pub written-alone : (sync k c : ℕ) (payload : List ℕ) → accepted k c payload ≡ true → Alone sync k c payload
 unfolding wholeRow
 written-alone sync k c payload w =
-    let a : Chunk = written k c payload in
+    let a : Laid = written k c payload in
     let row : wholeRow (a ∷ []) ≡ true = and-both (whole a) true (written-whole k c payload w) refl in
     record {
       lists = rw append-nil at (lists-row sync 0 (a ∷ []) row);
@@ -100,8 +100,8 @@ pub written-followed : (sync k c : ℕ) (payload : List ℕ) (k′ c′ : ℕ) (
     → Followed sync k c payload k′ c′ payload′
 unfolding wholeRow
 written-followed sync k c payload k′ c′ payload′ w w′ =
-    let a : Chunk = written k c payload in
-    let b : Chunk = written k′ c′ payload′ in
+    let a : Laid = written k c payload in
+    let b : Laid = written k′ c′ payload′ in
     let row : wholeRow (a ∷ b ∷ []) ≡ true =
     and-both (whole a) _ (written-whole k c payload w) (and-both (whole b) true (written-whole k′ c′ payload′ w′) refl) in
     let n : 0 + span (a .header) ≡ length payload + 2 = omega (arith, size-written k c payload w) in
@@ -116,13 +116,13 @@ written-followed sync k c payload k′ c′ payload′ w w′ =
 -- ---- and so the calls for a place answer what was written, in a recording that is not too long
 
 pub given-back : (sync p k c : ℕ) (ws payload : List ℕ) → length ws ≤ recordingLimit → Holds sync ws p k c payload
-    → (chunkAt sync ws p ≡ chunkAnswer 0 k c (length payload)) × (payloadAt sync ws p ≡ payload)
+    → (atReply sync ws p ≡ heading 0 k c (length payload)) × (payloadReply sync ws p ≡ payload)
 given-back sync p k c ws payload l h =
     let t = listed-place sync ws (entry p (h .header)) (h .there) in
-    let z : verdict (placeCauses sync ws p) ≡ 0 = rw (le-ltb recordingLimit (length ws) l, t .0) in
+    let z : verdict (atCauses sync ws p) ≡ 0 = rw (le-ltb recordingLimit (length ws) l, t .0) in
     let w : ℕ = getD (drop p ws) 1 0 in
     let e : w ≡ h .header = sym (t .1) in (
-      answer-yes (verdict (placeCauses sync ws p)) (λ v. chunkAnswer v 0 0 0) (fieldsOf w) z ∙ rw (e, h .ofKind, h .ofCamera, h .ofSize),
-      answer-yes (verdict (placeCauses sync ws p)) (λ v. []) (take (size w) (drop 2 (drop p ws))) z
+      answer-yes (verdict (atCauses sync ws p)) (λ v. heading v 0 0 0) (headingOf w) z ∙ rw (e, h .ofKind, h .ofCamera, h .ofSize),
+      answer-yes (verdict (atCauses sync ws p)) (λ v. []) (take (size w) (drop 2 (drop p ws))) z
           ∙ rw (e, drop-drop 2 p ws) (h .carries),
     )

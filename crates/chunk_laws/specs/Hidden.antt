@@ -8,21 +8,21 @@ use mathlib.Core.List.{List, [], _∷_, _++_}
 use lib.ListN.{replicate}
 use Rattle.chunk.specs.Header.{legal, legalSize, headed, ends, confirmed}
 use Rattle.chunk.specs.Reading.{entry, listed, reading}
-use Rattle.chunk_laws.specs.Stretch.{Chunk, words, offset, lacks, clean}
+use Rattle.chunk_laws.specs.Stretch.{Laid, words, offset, lacks, clean}
 
 abbrev pub sync : ℕ
 sync = 0x1FF8
 
 -- an image chunk of camera 1 with n words 0: its header word is 2000h and n
-abbrev pub blank : ℕ → Chunk
+abbrev pub blank : ℕ → Laid
 blank n = record { header = 8192 + n; payload = replicate n 0 }
 
 -- 742 chunks of size 9, one of size 10
-abbrev pub before : List Chunk
+abbrev pub before : List Laid
 before = replicate 742 (blank 9) ++ blank 10 ∷ []
 
 -- and then the chunk that is hidden, and one that is not
-abbrev pub stretch : List Chunk
+abbrev pub stretch : List Laid
 stretch = before ++ blank 9 ∷ blank 9 ∷ []
 
 pub stretch-clean : clean sync stretch ≡ true

@@ -8,7 +8,7 @@ use lib.ListN.{length}
 use lib.Dec.{leb}
 use Rattle.chunk.specs.declared.Entry.{Entry}
 use Rattle.chunk.specs.Reading.{entry, reading}
-use Rattle.chunk_laws.specs.Stretch.{Chunk, words, offset}
+use Rattle.chunk_laws.specs.Stretch.{Laid, words, offset}
 
 -- e is an entry of the list
 abbrev pub _∈_ : Entry → List Entry → Type 0
@@ -26,12 +26,12 @@ abbrev pub moved : ℕ → List Entry → List Entry
 moved n es = map (λ (e : Entry). entry (n + e .position .0) (e .header)) es
 
 -- The stretch `cs` after the words `a` is read as it is read alone.
-pub record ReadAsAlone (sync : ℕ) (a : List ℕ) (cs : List Chunk) : Type 0 where
+pub record ReadAsAlone (sync : ℕ) (a : List ℕ) (cs : List Laid) : Type 0 where
   -- every chunk that begins 8,185 words or more after the stretch's start is listed
-  pub late : (before : List Chunk) (c : Chunk) (after : List Chunk) → cs ≡ before ++ c ∷ after → 8185 ≤ offset sync before
+  pub late : (before : List Laid) (c : Laid) (after : List Laid) → cs ≡ before ++ c ∷ after → 8185 ≤ offset sync before
       → entry (length a + offset sync before) (c .header) ∈ reading sync (a ++ words sync cs)
   -- from each of its chunks that is listed, and so from the first, the list is that of the stretch alone, moved by the words of `a`
-  pub onward : (before : List Chunk) (c : Chunk) (after : List Chunk) → cs ≡ before ++ c ∷ after
+  pub onward : (before : List Laid) (c : Laid) (after : List Laid) → cs ≡ before ++ c ∷ after
       → entry (length a + offset sync before) (c .header) ∈ reading sync (a ++ words sync cs)
       → from (length a + offset sync before) (reading sync (a ++ words sync cs))
       ≡ moved (length a) (from (offset sync before) (reading sync (words sync cs)))

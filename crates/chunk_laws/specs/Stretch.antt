@@ -9,30 +9,30 @@ use Rattle.chunk.specs.Header.{size, span, legal, headed}
 use Rattle.chunk.specs.Reading.{entry}
 
 -- A chunk: its header word, and the words after it.
-pub record Chunk : Type 0 where
+pub record Laid : Type 0 where
   pub header : ℕ
   pub payload : List ℕ
 
 -- the words of a row of chunks, end to end: of each the sync word, the header word and the payload
-abbrev pub words : ℕ → List Chunk → List ℕ
+abbrev pub words : ℕ → List Laid → List ℕ
 words sync [] = []
 words sync (c ∷ cs) = sync ∷ c .header ∷ (c .payload ++ words sync cs)
 
 -- how many words after the row's start the chunk begins that comes after the chunks `before`
-abbrev pub offset : ℕ → List Chunk → ℕ
+abbrev pub offset : ℕ → List Laid → ℕ
 offset sync before = length (words sync before)
 
 -- every chunk of a row as it is listed, the first at the position `at`
-abbrev pub entries : ℕ → List Chunk → List Entry
+abbrev pub entries : ℕ → List Laid → List Entry
 entries at [] = []
 entries at (c ∷ cs) = entry at (c .header) ∷ entries (at + span (c .header)) cs
 
 -- a legal header word, and as many words after it as it says
-abbrev pub whole : Chunk → Bool
+abbrev pub whole : Laid → Bool
 whole c = legal (c .header) && eqb (length (c .payload)) (size (c .header))
 
 -- every chunk of a row is whole
-unfoldable pub wholeRow : List Chunk → Bool
+unfoldable pub wholeRow : List Laid → Bool
 wholeRow [] = true
 wholeRow (c ∷ cs) = whole c && wholeRow cs
 
@@ -42,7 +42,7 @@ lacks w [] = true
 lacks w (x ∷ xs) = not (eqb x w) && lacks w xs
 
 -- A clean stretch, as the mission has it: whole chunks, and in each the sync word stands only as its first word.
-unfoldable pub clean : ℕ → List Chunk → Bool
+unfoldable pub clean : ℕ → List Laid → Bool
 clean sync [] = true
 clean sync (c ∷ cs) = whole c && lacks sync (c .header ∷ c .payload) && clean sync cs
 
@@ -52,6 +52,6 @@ headless sync zero ws = true
 headless sync (suc n) ws = not (headed sync ws) && headless sync n (drop 1 ws)
 
 -- Less is enough: whole chunks, inside none of which a legal header begins, though the sync word may stand there.
-unfoldable pub unbroken : ℕ → List Chunk → Bool
+unfoldable pub unbroken : ℕ → List Laid → Bool
 unbroken sync [] = true
 unbroken sync (c ∷ cs) = whole c && headless sync (suc (length (c .payload))) (c .header ∷ (c .payload ++ words sync cs)) && unbroken sync cs

@@ -7,7 +7,7 @@ use lib.ListN.{length, take, drop}
 use Rattle.chunk.specs.Header.{size, camera, kind, legalSize}
 use Rattle.chunk.specs.Reading.{entry, reading, skipped}
 use Rattle.chunk.specs.Writing.{writable, headerWord, chunkOf}
-use Rattle.chunk_laws.specs.Stretch.{Chunk}
+use Rattle.chunk_laws.specs.Stretch.{Laid}
 use Rattle.chunk_laws.specs.Resync.{_∈_}
 
 -- what the writer takes, room aside: a kind and a camera of the list, and a payload that is legal for the kind
@@ -15,7 +15,7 @@ abbrev pub accepted : ℕ → ℕ → List ℕ → Bool
 accepted k c payload = writable k c && legalSize k (length payload)
 
 -- the chunk that is written
-abbrev pub written : ℕ → ℕ → List ℕ → Chunk
+abbrev pub written : ℕ → ℕ → List ℕ → Laid
 written k c payload = record { header = headerWord k c (length payload); payload = payload }
 
 -- in these words a chunk is listed at the place p, of the kind k and the camera c, with this payload

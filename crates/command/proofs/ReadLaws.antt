@@ -10,7 +10,7 @@ use borrow.Author.Tests.{eqb-true}
 use Rattle.base.specs.Refusal.{Causes, verdict, answer, wrongHeader, wrongCrc}
 use Rattle.base.proofs.Refused.{spared, answer-no, answer-yes}
 use Rattle.crc.specs.Crc.{crcStart, crcBytes}
-use Rattle.catalogue.proofs.Judged.{nest}
+use Rattle.command_catalogue.proofs.Judged.{nest}
 use Rattle.command.specs.declared.Fields.{Fields}
 use Rattle.command.specs.declared.Command.{Command}
 use Rattle.command.specs.Layout.{packetId, word, numberAt, fieldsIn}
@@ -19,19 +19,19 @@ use Rattle.command.proofs.Verdicts.{verdict-stop, verdict-go, verdict-f
 
 -- ---- what stands in a packet
 
-pub fields-are : (bs : List ℕ) {w k q a d : ℕ} → w ≡ numberAt word 2 bs → k ≡ getD bs 6 0 → q ≡ getD bs 7 0 → a ≡ numberAt word 8 bs
-    → d ≡ numberAt word 10 bs
-    → _≡_ {A = Fields} (record { sequence = w % 16384; kind = k; qualifier = q; address = a; «data» = d }) (fieldsIn bs)
+pub fields-are : (bs : List ℕ) {w k q a d : ℕ} → w ≡ numberAt word bs 2 → k ≡ getD bs 6 0 → q ≡ getD bs 7 0 → a ≡ numberAt word bs 8
+    → d ≡ numberAt word bs 10
+    → _≡_ {A = Fields} (record { sequence = w % 16384; «command_type» = k; qualifier = q; address = a; «data» = d }) (fieldsIn bs)
 fields-are bs ew ek eq ea ed = cc
 
-pub header-is : (bs : List ℕ) {l i s : ℕ} → l ≡ numberAt word 4 bs → i ≡ numberAt word 0 bs → s ≡ numberAt word 2 bs
+pub header-is : (bs : List ℕ) {l i s : ℕ} → l ≡ numberAt word bs 4 → i ≡ numberAt word bs 0 → s ≡ numberAt word bs 2
     → not (eqb i packetId && eqb (s / 16384) 3 && eqb l (length bs - 7)) ≡ headerWrong bs
 header-is bs el ei es = cc
 
 -- ---- the verdict on a packet
 
 pub inspected : (c m : ℕ) (f : Fields) (bs : List ℕ) {k w o s r : ℕ} {h : Bool} → k ≡ crcBytes crcStart (take (length bs - 2) bs)
-    → o ≡ verdict (lastCauses c m f (take (length bs - 2 - 12) (drop 12 bs))) → h ≡ headerWrong bs → w ≡ numberAt word (length bs - 2) bs
+    → o ≡ verdict (lastCauses c m f (take (length bs - 2 - 12) (drop 12 bs))) → h ≡ headerWrong bs → w ≡ numberAt word bs (length bs - 2)
     → s ≡ cond (not (eqb k w)) wrongCrc o → r ≡ cond h wrongHeader s → r ≡ verdict (packetCauses c m f bs)
 inspected c m f bs {k} {w} {o} {s} {r} {h} ek eo eh ew es er =
     let l : length bs - 2 - 12 ≡ length bs - 14 = omega arith in

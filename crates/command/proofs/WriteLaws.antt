@@ -16,7 +16,7 @@ use Rattle.crc.proofs.Laws.{crc-append}
 use Rattle.command.specs.declared.Fields.{Fields}
 use Rattle.command.specs.declared.Sent.{Sent}
 use Rattle.command.specs.Layout.{widths, headOf, laid, word, bytesOf, commandBytes}
-use Rattle.command.specs.Calls.{askedWrong, firstCauses, lastCauses, countWrong, writeCauses, sent, settled, writeReply, written}
+use Rattle.command.specs.Calls.{askedWrong, firstCauses, lastCauses, countWrong, writeCauses, sent, settled, writeReply, writeRoom}
 use Rattle.command.proofs.Verdicts.{verdict-stop, verdict-go, verdict-front, within}
 
 -- a refused reply is the same whatever would have been written
@@ -106,8 +106,8 @@ module _ (c m : ℕ) (f : Fields) (xs room : List ℕ) {r : Sent} (e : r ≡ wri
   unfolding writeReply
   reply-number = ap (λ (x : Sent). x .refusal) e ∙ settled-refusal _ _
 
-  pub untouched : (r .refusal ≡ 0 → ⊥) → room ≡ written c m f xs room
-  unfolding written
+  pub untouched : (r .refusal ≡ 0 → ⊥) → room ≡ writeRoom c m f xs room
+  unfolding writeRoom
   untouched h = sym (answer-no _ _ _ (λ z. h (reply-number ∙ z)))
 
   module _ (z : r .refusal ≡ 0) where
@@ -122,6 +122,6 @@ module _ (c m : ℕ) (f : Fields) (xs room : List ℕ) {r : Sent} (e : r ≡ wri
       ltb-false _ _ (none .1 .1 .1 .1 .1 .1 .0),
     )
 
-    pub stored : {d : List ℕ} → d ≡ put (commandBytes f xs) 0 room → d ≡ written c m f xs room
-    unfolding written
+    pub stored : {d : List ℕ} → d ≡ put (commandBytes f xs) 0 room → d ≡ writeRoom c m f xs room
+    unfolding writeRoom
     stored is = is ∙ sym (answer-yes _ _ _ (sym reply-number ∙ z))

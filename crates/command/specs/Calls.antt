@@ -7,8 +7,8 @@ use lib.Dec.{leb, ltb, eqb}
 use Rattle.base.specs.Refusal.{Causes, verdict, answer, wrongArgument, wrongLength, wrongHeader, wrongCrc, noRoom}
 use Rattle.base.specs.Room.{put}
 use Rattle.crc.specs.Crc.{crcStart, crcBytes}
-use Rattle.catalogue.specs.Table.{dcixs, c1xs, operating}
-use Rattle.catalogue.specs.Rules.{fieldCauses}
+use Rattle.command_catalogue.specs.Table.{dcixs, c1xs, operating}
+use Rattle.command_catalogue.specs.Rules.{fieldCauses}
 use Rattle.command.specs.declared.Fields.{Fields}
 use Rattle.command.specs.declared.Command.{Command}
 use Rattle.command.specs.declared.Sent.{Sent}
@@ -33,18 +33,18 @@ firstCauses argument catalogue total = (wrongArgument, argument) ∷ (wrongLengt
 
 -- and last: the catalogue's causes, which lie in the fields f and the further bytes xs
 abbrev pub lastCauses : ℕ → ℕ → Fields → List ℕ → Causes
-lastCauses catalogue mode f xs = fieldCauses catalogue mode (f .kind) (f .qualifier) (f .address) (f .«data») xs
+lastCauses catalogue mode f xs = fieldCauses catalogue mode (f .«command_type») (f .qualifier) (f .address) (f .«data») xs
 
 -- ---- the reader
 
 -- a wrong ID, sequence top bits or length field
 abbrev pub headerWrong : List ℕ → Bool
 headerWrong bs =
-    not (eqb (field 0 bs) packetId && eqb (field 1 bs / sequenceCounts) sequenceTop && eqb (field 2 bs) (lengthField (length bs)))
+    not (eqb (field bs 0) packetId && eqb (field bs 1 / sequenceCounts) sequenceTop && eqb (field bs 2) (lengthField (length bs)))
 
 -- the CRC, the last two bytes, covers all before it
 abbrev pub crcWrong : List ℕ → Bool
-crcWrong bs = not (eqb (crcBytes crcStart (take (length bs - 2) bs)) (numberAt word (length bs - 2) bs))
+crcWrong bs = not (eqb (crcBytes crcStart (take (length bs - 2) bs)) (numberAt word bs (length bs - 2)))
 
 -- header, CRC, then the fields f that stand there
 abbrev pub packetCauses : ℕ → ℕ → Fields → List ℕ → Causes
@@ -54,7 +54,7 @@ abbrev pub readCauses : ℕ → ℕ → List ℕ → Causes
 readCauses catalogue mode bs = firstCauses (askedWrong catalogue mode) catalogue (length bs) ++ packetCauses catalogue mode (fieldsIn bs) bs
 
 abbrev pub noFields : Fields
-noFields = record { sequence = 0; kind = 0; qualifier = 0; address = 0; «data» = 0 }
+noFields = record { sequence = 0; «command_type» = 0; qualifier = 0; address = 0; «data» = 0 }
 
 abbrev pub command : ℕ → Fields → ℕ → Command
 command v f n = record { refusal = v; fields = f; further = record { 0 = n } }
@@ -96,5 +96,5 @@ unfoldable pub writeReply : ℕ → ℕ → Fields → List ℕ → ℕ → Sent
 writeReply catalogue mode f xs room = settled (verdict (writeCauses catalogue mode f xs room)) (leastBytes + length xs)
 
 -- the room after the call
-unfoldable pub written : ℕ → ℕ → Fields → List ℕ → List ℕ → List ℕ
-written catalogue mode f xs room = answer (verdict (writeCauses catalogue mode f xs (length room))) (λ x. room) (put (commandBytes f xs) 0 room)
+unfoldable pub writeRoom : ℕ → ℕ → Fields → List ℕ → List ℕ → List ℕ
+writeRoom catalogue mode f xs room = answer (verdict (writeCauses catalogue mode f xs (length room))) (λ x. room) (put (commandBytes f xs) 0 room)

@@ -6,7 +6,7 @@ use mathlib.Core.List.{List, []}
 use lib.ListN.{replicate}
 use Rattle.base.specs.Refusal.{answer, wrongType, wrongField, wrongFurther, followsPaper}
 use Rattle.crc.specs.Crc.{crcBit, crcStep}
-use Rattle.catalogue.specs.Table.{dcixs, c1xs, emergency, standby, operating, table, permits}
+use Rattle.command_catalogue.specs.Table.{dcixs, c1xs, emergency, standby, operating, table, permits}
 use Rattle.command.specs.declared.Fields.{Fields}
 use Rattle.command.specs.declared.Command.{Command}
 use Rattle.command.specs.Layout.{commandBytes}
@@ -24,7 +24,7 @@ abbrev pub refused : ℕ → Command
 refused v = command v noFields 0
 
 abbrev pub fields : ℕ → ℕ → ℕ → Fields
-fields kind qualifier data' = record { sequence = 5; kind = kind; qualifier = qualifier; address = 0; «data» = data' }
+fields t qualifier data' = record { sequence = 5; «command_type» = t; qualifier = qualifier; address = 0; «data» = data' }
 
 -- SUBMODE, qualifier 2
 pub example-10 : readReply dcixs standby (commandBytes (fields 9 2 0) []) ≡ command 0 (fields 9 2 0) 0

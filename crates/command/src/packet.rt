@@ -22,7 +22,7 @@ pub const SEQUENCE_COUNTS: u16 = 16384;
 
 pub fn word_at(bytes: &[u8], at: usize) -> u16
     requires { ⌜ at < 65536 ⌝ }
-    ensures { λ r. ⌜ r ≡ numberAt word at (now (bytes .entry)) ⌝ }
+    ensures { λ r. ⌜ r ≡ numberAt word (now (bytes .entry)) at ⌝ }
 {
     (byte_at(bytes, Bytes(at)) as u16) * 256 + (byte_at(bytes, Bytes(at + 1)) as u16)
 }
@@ -32,7 +32,7 @@ pub fn fields_in(bytes: &[u8]) -> Fields
 {
     Fields {
         sequence: word_at(bytes, 2) % SEQUENCE_COUNTS,
-        kind: byte_at(bytes, Bytes(6)),
+        command_type: byte_at(bytes, Bytes(6)),
         qualifier: byte_at(bytes, Bytes(7)),
         address: word_at(bytes, 8),
         data: word_at(bytes, 10),
@@ -63,7 +63,7 @@ pub fn head(fields: Fields, total: usize) -> [u8; 12]
         (sequence % 256) as u8,
         (size / 256) as u8,
         (size % 256) as u8,
-        fields.kind,
+        fields.command_type,
         fields.qualifier,
         (fields.address / 256) as u8,
         (fields.address % 256) as u8,

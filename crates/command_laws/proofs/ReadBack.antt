@@ -15,7 +15,7 @@ use Rattle.base.proofs.Refused.{spared, answer-yes}
 use Rattle.crc.specs.Crc.{crcStart, crcBytes}
 use Rattle.command.specs.declared.Fields.{Fields}
 use Rattle.command.specs.Layout.{widths, headOf, laid, readOff, word, bytesOf, numberAt, bodyBytes, commandBytes, fieldsIn, furtherIn}
-use Rattle.command.specs.Calls.{askedWrong, firstCauses, lastCauses, headerWrong, crcWrong, readCauses, countWrong, askCauses, command, given, readReply, furtherReply, writeReply, written}
+use Rattle.command.specs.Calls.{askedWrong, firstCauses, lastCauses, headerWrong, crcWrong, readCauses, countWrong, askCauses, command, given, readReply, furtherReply, writeReply, writeRoom}
 use Rattle.command.proofs.Verdicts.{verdict-front}
 use Rattle.command.proofs.WriteLaws.{reply-number, small, stored}
 use Rattle.base.proofs.RoomLaws.{put-fits}
@@ -34,21 +34,21 @@ crc-sound body =
     let low : getD bs (length bs - 2 + 1) 0 ≡ crc % 256 =
     ap (λ (k : ℕ). getD bs (k + 1) 0) n ∙ getD-append-add body (bytesOf word crc) 1 0
     in
-    let stands : numberAt word (length bs - 2) bs ≡ crc = ap₂ (λ (h l : ℕ). h * 256 + l) high low ∙ number crc in
+    let stands : numberAt word bs (length bs - 2) ≡ crc = ap₂ (λ (h l : ℕ). h * 256 + l) high low ∙ number crc in
     let covers : crcBytes crcStart (take (length bs - 2) bs) ≡ crc = ap (crcBytes crcStart) (take-at body (bytesOf word crc) (length bs - 2) (sym n)) in
     ap not (eq-eqb _ _ (covers ∙ sym stands))
 
 -- what a head says, as the reader has it
 abbrev fieldsOf : List ℕ → Fields
 fieldsOf hs =
-    record { sequence = getD hs 1 0 % 16384; kind = getD hs 3 0; qualifier = getD hs 4 0; address = getD hs 5 0; «data» = getD hs 6 0 }
+    record { sequence = getD hs 1 0 % 16384; «command_type» = getD hs 3 0; qualifier = getD hs 4 0; address = getD hs 5 0; «data» = getD hs 6 0 }
 
 abbrev headTest : List ℕ → ℕ → Bool
 headTest hs total = not (eqb (getD hs 0 0) 0x13EE && eqb (getD hs 1 0 / 16384) 3 && eqb (getD hs 2 0) (total - 7))
 
 module _ (f : Fields) where
   -- the head, read off
-  heads : (total : ℕ) (rest : List ℕ) → readOff widths 0 (laid widths (headOf total f) ++ rest) ≡ headOf total f
+  heads : (total : ℕ) (rest : List ℕ) → readOff widths (laid widths (headOf total f) ++ rest) 0 ≡ headOf total f
   heads total rest = cc (number (49152 + f .sequence), number (total - 7), number (f .address), number (f .«data»))
 
   tested : (total : ℕ) → headTest (headOf total f) total ≡ countWrong f
@@ -79,7 +79,7 @@ module _ (f : Fields) where
     fields h =
         let s : (49152 + f .sequence) % 16384 ≡ f .sequence = omega arith in
         ap fieldsOf (heads (14 + length xs) (xs ++ bytesOf word crc))
-        ∙ ap (λ (n : ℕ). record { sequence = n; kind = f .kind; qualifier = f .qualifier; address = f .address; «data» = f .«data» }) s
+        ∙ ap (λ (n : ℕ). record { sequence = n; «command_type» = f .«command_type»; qualifier = f .qualifier; address = f .address; «data» = f .«data» }) s
 
     pub further : furtherIn (commandBytes f xs) ≡ xs
     unfolding commandBytes
@@ -149,7 +149,7 @@ module _ (c m : ℕ) (f : Fields) (xs room : List ℕ) (z : writeReply c m f xs 
   fit = small c m f xs room refl z
 
   -- what stands in the room
-  there : take (14 + length xs) (written c m f xs room) ≡ commandBytes f xs
+  there : take (14 + length xs) (writeRoom c m f xs room) ≡ commandBytes f xs
   there =
       ap (take (14 + length xs)) (sym (stored c m f xs room refl z refl) ∙ put-fits (commandBytes f xs) 0 room (omega (arith, fit, long f xs)))
       ∙ take-at (commandBytes f xs) (drop (0 + length (commandBytes f xs)) room) (14 + length xs) (long f xs)

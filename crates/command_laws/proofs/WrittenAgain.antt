@@ -27,26 +27,26 @@ module _ (c m : ℕ) (bs : List ℕ) (bytes : (i : ℕ) → getD bs i 0 < 256) (
   none = spared (readCauses c m bs) refl z
 
   -- the header
-  right : eqb (field 0 bs) 0x13EE && eqb (field 1 bs / 16384) 3 && eqb (field 2 bs) (length bs - 7) ≡ true
+  right : eqb (field bs 0) 0x13EE && eqb (field bs 1 / 16384) 3 && eqb (field bs 2) (length bs - 7) ≡ true
   right = not-false _ (none .1 .1 .0)
 
-  stand : (field 0 bs ≡ 0x13EE) × (field 1 bs / 16384 ≡ 3) × (field 2 bs ≡ length bs - 7)
+  stand : (field bs 0 ≡ 0x13EE) × (field bs 1 / 16384 ≡ 3) × (field bs 2 ≡ length bs - 7)
   stand =
-      let both = and-eq-true-iff (eqb (field 0 bs) 0x13EE && eqb (field 1 bs / 16384) 3) (eqb (field 2 bs) (length bs - 7)) .0 right in
-      let front = and-eq-true-iff (eqb (field 0 bs) 0x13EE) (eqb (field 1 bs / 16384) 3) .0 (both .0) in
+      let both = and-eq-true-iff (eqb (field bs 0) 0x13EE && eqb (field bs 1 / 16384) 3) (eqb (field bs 2) (length bs - 7)) .0 right in
+      let front = and-eq-true-iff (eqb (field bs 0) 0x13EE) (eqb (field bs 1 / 16384) 3) .0 (both .0) in
       (eqb-true _ _ (front .0), eqb-true _ _ (front .1), eqb-true _ _ (both .1))
 
-  crc : crcBytes crcStart (take (length bs - 2) bs) ≡ numberAt word (length bs - 2) bs
+  crc : crcBytes crcStart (take (length bs - 2) bs) ≡ numberAt word bs (length bs - 2)
   crc = eqb-true _ _ (not-false _ (none .1 .1 .1 .0))
 
   -- the three parts
   total : 14 + length (furtherIn bs) ≡ length bs
   total = omega (arith, long, length-drop 12 bs, length-take-le (length bs - 14) (drop 12 bs) (omega (arith, long, length-drop 12 bs)))
 
-  head : readOff widths 0 bs ≡ headOf (14 + length (furtherIn bs)) (fieldsIn bs)
+  head : readOff widths bs 0 ≡ headOf (14 + length (furtherIn bs)) (fieldsIn bs)
   head =
-      let count : field 1 bs ≡ 49152 + field 1 bs % 16384 = omega (arith, stand) in
-      let named : field 2 bs ≡ 14 + length (furtherIn bs) - 7 = stand .2 ∙ ap (λ (n : ℕ). n - 7) (sym total) in
+      let count : field bs 1 ≡ 49152 + field bs 1 % 16384 = omega (arith, stand) in
+      let named : field bs 2 ≡ 14 + length (furtherIn bs) - 7 = stand .2 ∙ ap (λ (n : ℕ). n - 7) (sym total) in
       cc (stand .0)
 
   front : bs ≡ bodyBytes (fieldsIn bs) (furtherIn bs) ++ drop (length bs - 2) bs
@@ -65,11 +65,11 @@ module _ (c m : ℕ) (bs : List ℕ) (bytes : (i : ℕ) → getD bs i 0 < 256) (
       ap (take (length bs - 2)) front
       ∙ take-at (bodyBytes (fieldsIn bs) (furtherIn bs)) (drop (length bs - 2) bs) (length bs - 2) (omega (arith, total))
 
-  end : drop (length bs - 2) bs ≡ bytesOf word (numberAt word (length bs - 2) bs)
+  end : drop (length bs - 2) bs ≡ bytesOf word (numberAt word bs (length bs - 2))
   end =
       let past : length bs ≤ length bs - 2 + 2 = omega arith in
       laid-again bs bytes (word ∷ []) (length bs - 2) (omega (arith, long))
-      ∙ ap (λ (l : List ℕ). bytesOf word (numberAt word (length bs - 2) bs) ++ l) (drop-of-length-le bs past)
+      ∙ ap (λ (l : List ℕ). bytesOf word (numberAt word bs (length bs - 2)) ++ l) (drop-of-length-le bs past)
 
   pub written-again : bs ≡ commandBytes (fieldsIn bs) (furtherIn bs)
   unfolding commandBytes
@@ -79,7 +79,7 @@ module _ (c m : ℕ) (bs : List ℕ) (bytes : (i : ℕ) → getD bs i 0 < 256) (
       (end ∙ ap (bytesOf word) (sym crc ∙ ap (crcBytes crcStart) body))
 
   pub asked-again : verdict (askCauses c m (fieldsIn bs) (furtherIn bs)) ≡ 0
-  asked-again = sym (judged-alike c m (fieldsIn bs) (furtherIn bs) (mod-lt (field 1 bs) (lit< tt))) ∙ ap (λ (l : List ℕ). verdict (readCauses c m l)) (sym written-again) ∙ z
+  asked-again = sym (judged-alike c m (fieldsIn bs) (furtherIn bs) (mod-lt (field bs 1) (lit< tt))) ∙ ap (λ (l : List ℕ). verdict (readCauses c m l)) (sym written-again) ∙ z
 
 pub written-alike : WrittenAlike
 written-alike c m bs bytes z = (written-again c m bs bytes z, asked-again c m bs bytes z)

@@ -6,13 +6,13 @@ use lib.ListN.{length, getD, take}
 use Rattle.base.specs.Refusal.{verdict}
 use Rattle.command.specs.declared.Fields.{Fields}
 use Rattle.command.specs.Layout.{leastBytes, commandBytes, fieldsIn, furtherIn}
-use Rattle.command.specs.Calls.{readCauses, askCauses, command, readReply, furtherReply, writeReply, written}
+use Rattle.command.specs.Calls.{readCauses, askCauses, command, readReply, furtherReply, writeReply, writeRoom}
 
 -- What the writer writes, the reader accepts, and gives back every field and every byte.
 abbrev pub GivenBack : Type 0
 GivenBack = (catalogue mode : ℕ) (f : Fields) (xs room : List ℕ) → writeReply catalogue mode f xs (length room) .refusal ≡ 0
-    → (readReply catalogue mode (take (leastBytes + length xs) (written catalogue mode f xs room)) ≡ command 0 f (length xs))
-    × (furtherReply catalogue mode (take (leastBytes + length xs) (written catalogue mode f xs room)) ≡ xs)
+    → (readReply catalogue mode (take (leastBytes + length xs) (writeRoom catalogue mode f xs room)) ≡ command 0 f (length xs))
+    × (furtherReply catalogue mode (take (leastBytes + length xs) (writeRoom catalogue mode f xs room)) ≡ xs)
 
 -- The writer, but for its room, accepts exactly the fields whose bytes the reader accepts: what it refuses, no reader would accept.
 abbrev pub AcceptedAlike : Type 0

@@ -20,7 +20,7 @@ use Rattle.chunk.proofs.Steps.{hit-within}
 use Rattle.frame.specs.declared.Frame.{Frame}
 use Rattle.frame.specs.Shape.{starts, startsFrame, complete}
 use Rattle.frame.specs.Picture.{frameUnits, frameLength, frameData, anyDamaged}
-use Rattle.frame.specs.Replies.{refused, described, atCauses, frameAt, judgeCauses, judged, readCauses, readReply, afterRead}
+use Rattle.frame.specs.Replies.{refused, described, atCauses, atReply, judgeCauses, judgeReply, readCauses, readReply, readRoom}
 use Rattle.frame.proofs.Joining.{confirmed-there}
 use Rattle.frame.proofs.Walking.{long}
 
@@ -44,24 +44,24 @@ pub record There (sync p : ℕ) (ws : List ℕ) : Type 0 where
   pub begins : startsFrame sync (take (length ws - p) (drop p ws)) ≡ true
 
 module _ (sync p : ℕ) (ws : List ℕ) where
-  listed-confirmed : listedAt sync p ws ≡ true → confirmed sync (drop p ws) ≡ true
+  listed-confirmed : listedAt sync ws p ≡ true → confirmed sync (drop p ws) ≡ true
   unfolding listedAt
-  listed-confirmed e = and-right (eqb (leftAt sync 0 p ws) 0) (confirmed sync (drop p ws)) e
+  listed-confirmed e = and-right (eqb (leftAt sync 0 ws p) 0) (confirmed sync (drop p ws)) e
 
   -- the header word of a listed chunk lies within the words
-  pub listed-inside : listedAt sync p ws ≡ true → p + 1 < length ws
+  pub listed-inside : listedAt sync ws p ≡ true → p + 1 < length ws
   listed-inside e =
       let c = listed-confirmed e in
       omega (arith, hit-within sync ws p (confirmed-there sync ws p c) c .0)
 
-  pub too-long : recordingLimit < length ws → wrongLength ≡ verdict (atCauses sync p ws)
+  pub too-long : recordingLimit < length ws → wrongLength ≡ verdict (atCauses sync ws p)
   too-long h = simp (lt-ltb recordingLimit (length ws) h)
 
   module _ (h : length ws ≤ recordingLimit) where
-    pub not-listed : listedAt sync p ws ≡ false → nothingThere ≡ verdict (atCauses sync p ws)
+    pub not-listed : listedAt sync ws p ≡ false → nothingThere ≡ verdict (atCauses sync ws p)
     not-listed e = simp (le-ltb recordingLimit (length ws) h, e)
 
-    pub by-start : listedAt sync p ws ≡ true → (b : Bool) → b ≡ starts (getD ws (p + 1) 0) → cond (not b) nothingThere 0 ≡ verdict (atCauses sync p ws)
+    pub by-start : listedAt sync ws p ≡ true → (b : Bool) → b ≡ starts (getD ws (p + 1) 0) → cond (not b) nothingThere 0 ≡ verdict (atCauses sync ws p)
     by-start e b s = simp (le-ltb recordingLimit (length ws) h, e, s, getD-drop p ws 1 0)
 
   -- ---- what a frame is
@@ -74,25 +74,25 @@ module _ (sync p : ℕ) (ws : List ℕ) where
   abbrev part : List ℕ
   part = take (length ws - p) (drop p ws)
 
-  module _ (v : verdict (atCauses sync p ws) ≡ 0) where
+  module _ (v : verdict (atCauses sync ws p) ≡ 0) where
     starts-here : startsFrame sync here ≡ true
     starts-here =
-        let s = spared (atCauses sync p ws) refl v in
-        let b = not-false (listedAt sync p ws && starts (getD here 1 0)) (s .1 .0) in
-        ap₂ _&&_ (listed-confirmed (and-left (listedAt sync p ws) (starts (getD here 1 0)) b)) (and-right (listedAt sync p ws) (starts (getD here 1 0)) b)
+        let s = spared (atCauses sync ws p) refl v in
+        let b = not-false (listedAt sync ws p && starts (getD here 1 0)) (s .1 .0) in
+        ap₂ _&&_ (listed-confirmed (and-left (listedAt sync ws p) (starts (getD here 1 0)) b)) (and-right (listedAt sync ws p) (starts (getD here 1 0)) b)
 
     pub there : There sync p ws
     there = record { inside = omega (arith, long sync here starts-here, length-drop p ws); begins = ap (startsFrame sync) (to-end p ws) ∙ starts-here }
 
-    pub at-given : (r : Frame) → r ≡ described sync part → r ≡ frameAt sync p ws
-    unfolding frameAt
+    pub at-given : (r : Frame) → r ≡ described sync part → r ≡ atReply sync ws p
+    unfolding atReply
     at-given r e =
-        e ∙ ap (described sync) (to-end p ws) ∙ sym (answer-yes (verdict (atCauses sync p ws)) refused (described sync here) v)
+        e ∙ ap (described sync) (to-end p ws) ∙ sym (answer-yes (verdict (atCauses sync ws p)) refused (described sync here) v)
 
-  pub at-refused : (n : ℕ) → n ≡ verdict (atCauses sync p ws) → (n ≡ 0 → ⊥) → refused n ≡ frameAt sync p ws
-  unfolding frameAt
+  pub at-refused : (n : ℕ) → n ≡ verdict (atCauses sync ws p) → (n ≡ 0 → ⊥) → refused n ≡ atReply sync ws p
+  unfolding atReply
   at-refused n e h =
-      ap refused e ∙ sym (answer-no (verdict (atCauses sync p ws)) refused (described sync here) (λ z. h (e ∙ z)))
+      ap refused e ∙ sym (answer-no (verdict (atCauses sync ws p)) refused (described sync here) (λ z. h (e ∙ z)))
 
   -- the number in a reply, and the reply where it is 0
   number : (v : ℕ) → answer v refused (described sync here) .refusal ≡ v
@@ -127,40 +127,40 @@ module _ (sync p : ℕ) (ws : List ℕ) where
   abbrev cutOrDamaged : Causes
   cutOrDamaged = (frameCut, not (complete sync here)) ∷ (wrongParity, anyDamaged (frameUnits sync here)) ∷ []
 
-  module _ (r : Frame) (e : r ≡ frameAt sync p ws) where
-    pub judge-kept : (r .refusal ≡ 0 → ⊥) → r ≡ judged sync p ws
-    unfolding judged frameAt
-    judge-kept = kept (atCauses sync p ws) r e cutOrDamaged
+  module _ (r : Frame) (e : r ≡ atReply sync ws p) where
+    pub judge-kept : (r .refusal ≡ 0 → ⊥) → r ≡ judgeReply sync ws p
+    unfolding judgeReply atReply
+    judge-kept = kept (atCauses sync ws p) r e cutOrDamaged
 
     module _ (z : r .refusal ≡ 0) where
       pub at-there : There sync p ws
-      unfolding frameAt
-      at-there = there (none (atCauses sync p ws) r e z)
+      unfolding atReply
+      at-there = there (none (atCauses sync ws p) r e z)
 
-      so-far : answer (verdict cutOrDamaged) refused r ≡ judged sync p ws
-      unfolding judged frameAt
-      so-far = further (atCauses sync p ws) r e z cutOrDamaged refl
+      so-far : answer (verdict cutOrDamaged) refused r ≡ judgeReply sync ws p
+      unfolding judgeReply atReply
+      so-far = further (atCauses sync ws p) r e z cutOrDamaged refl
 
       said : r .complete ≡ complete sync here
-      unfolding frameAt described
-      said = ap (λ (f : Frame). f .complete) (whole (atCauses sync p ws) r e z)
+      unfolding atReply described
+      said = ap (λ (f : Frame). f .complete) (whole (atCauses sync ws p) r e z)
 
-      pub cut : r .complete ≡ false → refused frameCut ≡ judged sync p ws
+      pub cut : r .complete ≡ false → refused frameCut ≡ judgeReply sync ws p
       unfolding answer
       cut c = ap (λ (b : Bool). answer (verdict ((frameCut, not b) ∷ (wrongParity, anyDamaged (frameUnits sync here)) ∷ [])) refused r) (sym c ∙ said) ∙ so-far
 
       module _ (c : r .complete ≡ true) (b : Bool) (d : b ≡ anyDamaged (frameUnits sync part)) where
-        so-judged : answer (verdict ((frameCut, not true) ∷ (wrongParity, b) ∷ [])) refused r ≡ judged sync p ws
+        so-judged : answer (verdict ((frameCut, not true) ∷ (wrongParity, b) ∷ [])) refused r ≡ judgeReply sync ws p
         so-judged =
             ap₂ (λ (x y : Bool). answer (verdict ((frameCut, not x) ∷ (wrongParity, y) ∷ [])) refused r) (sym c ∙ said)
             (d ∙ ap (λ (w : List ℕ). anyDamaged (frameUnits sync w)) (to-end p ws))
             ∙ so-far
 
-        pub damaged : b ≡ true → refused wrongParity ≡ judged sync p ws
+        pub damaged : b ≡ true → refused wrongParity ≡ judgeReply sync ws p
         unfolding answer
         damaged t = ap (λ (x : Bool). answer (verdict ((frameCut, not true) ∷ (wrongParity, x) ∷ [])) refused r) (sym t) ∙ so-judged
 
-        pub undamaged : b ≡ false → r ≡ judged sync p ws
+        pub undamaged : b ≡ false → r ≡ judgeReply sync ws p
         unfolding answer
         undamaged t = ap (λ (x : Bool). answer (verdict ((frameCut, not true) ∷ (wrongParity, x) ∷ [])) refused r) (sym t) ∙ so-judged
 
@@ -169,32 +169,32 @@ module _ (sync p : ℕ) (ws : List ℕ) where
   abbrev tooSmall : ℕ → Causes
   tooSmall m = (noRoom, ltb m (frameLength sync here)) ∷ []
 
-  module _ (m : ℕ) (r : Frame) (e : r ≡ judged sync p ws) where
-    pub look-kept : (r .refusal ≡ 0 → ⊥) → r ≡ readReply sync p ws m
-    unfolding judged readReply
-    look-kept = kept (judgeCauses sync p ws) r e (tooSmall m)
+  module _ (m : ℕ) (r : Frame) (e : r ≡ judgeReply sync ws p) where
+    pub look-kept : (r .refusal ≡ 0 → ⊥) → r ≡ readReply sync ws p m
+    unfolding judgeReply readReply
+    look-kept = kept (judgeCauses sync ws p) r e (tooSmall m)
 
     module _ (z : r .refusal ≡ 0) where
-      so-looked : answer (verdict ((noRoom, ltb m (r .length .0)) ∷ [])) refused r ≡ readReply sync p ws m
-      unfolding judged readReply described
+      so-looked : answer (verdict ((noRoom, ltb m (r .length .0)) ∷ [])) refused r ≡ readReply sync ws p m
+      unfolding judgeReply readReply described
       so-looked =
-          ap (λ (n : ℕ). answer (verdict ((noRoom, ltb m n) ∷ [])) refused r) (ap (λ (f : Frame). f .length .0) (whole (judgeCauses sync p ws) r e z))
-          ∙ further (judgeCauses sync p ws) r e z (tooSmall m) refl
+          ap (λ (n : ℕ). answer (verdict ((noRoom, ltb m n) ∷ [])) refused r) (ap (λ (f : Frame). f .length .0) (whole (judgeCauses sync ws p) r e z))
+          ∙ further (judgeCauses sync ws p) r e z (tooSmall m) refl
 
-      pub too-small : m < r .length .0 → refused noRoom ≡ readReply sync p ws m
+      pub too-small : m < r .length .0 → refused noRoom ≡ readReply sync ws p m
       unfolding answer
       too-small h = ap (λ (b : Bool). answer (cond b noRoom 0) refused r) (sym (lt-ltb m (r .length .0) h)) ∙ so-looked
 
-      pub enough : r .length .0 ≤ m → r ≡ readReply sync p ws m
+      pub enough : r .length .0 ≤ m → r ≡ readReply sync ws p m
       unfolding answer
       enough h = ap (λ (b : Bool). answer (cond b noRoom 0) refused r) (sym (le-ltb m (r .length .0) h)) ∙ so-looked
 
-  module _ (room : List ℕ) (r : Frame) (e : r ≡ readReply sync p ws (length room)) where
+  module _ (room : List ℕ) (r : Frame) (e : r ≡ readReply sync ws p (length room)) where
     abbrev causes : Causes
-    causes = readCauses sync p ws (length room)
+    causes = readCauses sync ws p (length room)
 
-    pub untouched : (r .refusal ≡ 0 → ⊥) → room ≡ afterRead sync p ws room
-    unfolding readReply afterRead
+    pub untouched : (r .refusal ≡ 0 → ⊥) → room ≡ readRoom sync ws p room
+    unfolding readReply readRoom
     untouched h =
         sym (answer-no (verdict causes) (λ v. room) (put (frameData sync here) 0 room) (λ z. h (of-reply causes r e ∙ z)))
 
@@ -206,7 +206,7 @@ module _ (sync p : ℕ) (ws : List ℕ) where
       pub read-there : There sync p ws
       read-there =
           let s = spared causes refl accepted in
-          let v : verdict (atCauses sync p ws) ≡ 0 = rw (s .0, s .1 .0) in
+          let v : verdict (atCauses sync ws p) ≡ 0 = rw (s .0, s .1 .0) in
           there v
 
       -- what is asked for the data
@@ -219,8 +219,8 @@ module _ (sync p : ℕ) (ws : List ℕ) where
             (ap (λ (x : List ℕ). anyDamaged (frameUnits sync x)) w ∙ s .1 .1 .1 .0, omega (arith, ap (frameLength sync) w)),
           )
 
-      pub written : (room₁ : List ℕ) → room₁ ≡ put (frameData sync part) 0 room → room₁ ≡ afterRead sync p ws room
-      unfolding afterRead
+      pub written : (room₁ : List ℕ) → room₁ ≡ put (frameData sync part) 0 room → room₁ ≡ readRoom sync ws p room
+      unfolding readRoom
       written room₁ w =
           w ∙ ap (λ (x : List ℕ). put (frameData sync x) 0 room) (to-end p ws)
           ∙ sym (answer-yes (verdict causes) (λ v. room) (put (frameData sync here) 0 room) accepted)

@@ -35,7 +35,7 @@ module _ (sync : ℕ) (ws : List ℕ) (at : ℕ) where
   next-here e = stepped sync ws at _ (found-hit sync ws at (confirmed-there e) e)
 
   -- where none is confirmed, the next listed chunk begins later
-  pub next-later : confirmed sync (drop at ws) ≡ false → (e : Entry) → nextFrom sync at ws ≡ Found.Chunk e → eqb (e .position .0) at ≡ false
+  pub next-later : confirmed sync (drop at ws) ≡ false → (e : Entry) → nextFrom sync ws at ≡ Found.Chunk e → eqb (e .position .0) at ≡ false
   next-later z e f =
       ne-eqb (e .position .0) at
       (λ q. false≢true (sym z ∙ sym (ap (λ (n : ℕ). confirmed sync (drop n ws)) q) ∙ stepped sync ws at e f .confirms))
@@ -66,7 +66,7 @@ module _ (sync : ℕ) (ws : List ℕ) (end : ℕ) where
   unfolding joining
   joining-stop all n = by-check (confirmed sync (drop end ws)) refl n
     where
-      by-found : confirmed sync (drop end ws) ≡ false → (f : Found) → nextFrom sync end ws ≡ f → joining end all (listedFrom sync ws end) ≡ []
+      by-found : confirmed sync (drop end ws) ≡ false → (f : Found) → nextFrom sync ws end ≡ f → joining end all (listedFrom sync ws end) ≡ []
       by-found z End f = ap (joining end all) (ended sync ws end f .lists)
       by-found z (Chunk e) f =
           let t : all && eqb (e .position .0) end && continues (e .header) ≡ false = rw (next-later sync ws end z e f, and-false all) in
@@ -74,7 +74,7 @@ module _ (sync : ℕ) (ws : List ℕ) (end : ℕ) where
 
       by-check : (b : Bool) → confirmed sync (drop end ws) ≡ b → all && (b && continues (getD ws (suc end) 0)) ≡ false
           → joining end all (listedFrom sync ws end) ≡ []
-      by-check false z m = by-found z (nextFrom sync end ws) refl
+      by-check false z m = by-found z (nextFrom sync ws end) refl
       by-check true z m =
           let h : ℕ = getD ws (suc end) 0 in
           let t : all && eqb end end && continues h ≡ false = rw (eq-eqb end end refl, and-true all) m in
@@ -83,18 +83,18 @@ module _ (sync : ℕ) (ws : List ℕ) (end : ℕ) where
 -- ---- the end
 
 module _ (sync cam : ℕ) (ws : List ℕ) (end : ℕ) where
-  pub closes-at : closes cam end ws (listedFrom sync ws end)
-      ≡ confirmed sync (drop end ws) && eqb (kind (getD ws (suc end) 0)) 1 && observes cam (drop (end + 2) ws)
+  pub closes-at : closes ws end cam (listedFrom sync ws end)
+      ≡ confirmed sync (drop end ws) && eqb (kind (getD ws (suc end) 0)) 1 && observes (drop (end + 2) ws) cam
   unfolding closes
   closes-at = by-check (confirmed sync (drop end ws)) refl
     where
-      by-found : confirmed sync (drop end ws) ≡ false → (f : Found) → nextFrom sync end ws ≡ f → closes cam end ws (listedFrom sync ws end) ≡ false
-      by-found z End f = ap (closes cam end ws) (ended sync ws end f .lists)
+      by-found : confirmed sync (drop end ws) ≡ false → (f : Found) → nextFrom sync ws end ≡ f → closes ws end cam (listedFrom sync ws end) ≡ false
+      by-found z End f = ap (closes ws end cam) (ended sync ws end f .lists)
       by-found z (Chunk e) f = rw (stepped sync ws end e f .lists, next-later sync ws end z e f)
 
       by-check : (b : Bool) → confirmed sync (drop end ws) ≡ b
-          → closes cam end ws (listedFrom sync ws end) ≡ b && eqb (kind (getD ws (suc end) 0)) 1 && observes cam (drop (end + 2) ws)
-      by-check false z = by-found z (nextFrom sync end ws) refl
+          → closes ws end cam (listedFrom sync ws end) ≡ b && eqb (kind (getD ws (suc end) 0)) 1 && observes (drop (end + 2) ws) cam
+      by-check false z = by-found z (nextFrom sync ws end) refl
       by-check true z = rw (next-here sync ws end z .lists, eq-eqb end end refl)
 
 -- ---- the whole frame

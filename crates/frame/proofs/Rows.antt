@@ -17,7 +17,7 @@ use Rattle.chunk.specs.Header.{size, camera, kind, span, imageSize, confirmed}
 use Rattle.chunk.specs.Reading.{entry, listedWords}
 use Rattle.chunk.proofs.Steps.{hit-within, confirmed-end}
 use Rattle.base.specs.Refusal.{wrongParity}
-use Rattle.parity.specs.Unit.{unitRefusal, unitData}
+use Rattle.parity.specs.Unit.{judgeVerdict, unitData}
 use Rattle.frame.specs.Shape.{starts, continues, whole, joining, startsFrame, frameChunks, frameWords}
 use Rattle.frame.specs.Picture.{parts, unitsIn, payloadOf, chunkUnits, unitsOf, anyDamaged, joinedData, dataWords, frameUnits, frameData, frameLength}
 use Rattle.frame.proofs.Joining.{listedFrom, confirmed-there, joining-step, joining-stop}
@@ -151,7 +151,7 @@ damaged-append : (us vs : List (List ℕ)) → anyDamaged (us ++ vs) ≡ anyDama
 unfolding anyDamaged
 damaged-append [] vs = refl
 damaged-append (u ∷ us) vs =
-    ap (λ (b : Bool). eqb (unitRefusal u) wrongParity || b) (damaged-append us vs) ∙ sym (or-assoc (eqb (unitRefusal u) wrongParity) (anyDamaged us) (anyDamaged vs))
+    ap (λ (b : Bool). eqb (judgeVerdict u) wrongParity || b) (damaged-append us vs) ∙ sym (or-assoc (eqb (judgeVerdict u) wrongParity) (anyDamaged us) (anyDamaged vs))
 
 -- No unit of the chunks before the place is damaged.
 pub record Passed (ws : List ℕ) (end : ℕ) (all : List (List ℕ)) (at : ℕ) : Type 0 where

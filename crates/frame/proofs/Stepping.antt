@@ -28,27 +28,27 @@ first-one sync ws e es false q =
     ap (λ (b : Bool). elim b as (λ x. Piece) [ true ↦ cond (starts (e .header)) (frameThere sync ws (e .position .0)) (strayThere e) | false ↦ firstPiece sync ws es ]) q
 
 module _ (sync : ℕ) (ws : List ℕ) (p : ℕ) where
-  pub none : nextFrom sync p ws ≡ Found.End → nextPiece sync p ws ≡ Piece.End
+  pub none : nextFrom sync ws p ≡ Found.End → nextPiece sync ws p ≡ Piece.End
   unfolding firstPiece
   none f = ap (firstPiece sync ws) (ended sync ws p f .lists)
 
   module _ (e : Entry) (n : Next sync ws p e) where
     decides : (b : Bool) → eqb (kind (e .header)) 0 ≡ b
-        → nextPiece sync p ws ≡ cond b (cond (starts (e .header)) (frameThere sync ws (e .position .0)) (strayThere e)) (nextPiece sync (past e) ws)
+        → nextPiece sync ws p ≡ cond b (cond (starts (e .header)) (frameThere sync ws (e .position .0)) (strayThere e)) (nextPiece sync ws (past e))
     decides b q = ap (firstPiece sync ws) (n .lists) ∙ first-one sync ws e (listedFrom sync ws (past e)) b q
 
     -- a health chunk is passed
-    pub passed : (kind (e .header) ≡ 0 → ⊥) → nextPiece sync p ws ≡ nextPiece sync (past e) ws
+    pub passed : (kind (e .header) ≡ 0 → ⊥) → nextPiece sync ws p ≡ nextPiece sync ws (past e)
     passed h = decides false (ne-eqb (kind (e .header)) 0 h)
 
     module _ (h : kind (e .header) ≡ 0) where
-      image : nextPiece sync p ws ≡ cond (starts (e .header)) (frameThere sync ws (e .position .0)) (strayThere e)
+      image : nextPiece sync ws p ≡ cond (starts (e .header)) (frameThere sync ws (e .position .0)) (strayThere e)
       image = decides true (eq-eqb (kind (e .header)) 0 h)
 
-      pub framed : starts (e .header) ≡ true → nextPiece sync p ws ≡ frameThere sync ws (e .position .0)
+      pub framed : starts (e .header) ≡ true → nextPiece sync ws p ≡ frameThere sync ws (e .position .0)
       framed s = image ∙ ap (λ (b : Bool). cond b (frameThere sync ws (e .position .0)) (strayThere e)) s
 
-      pub strayed : starts (e .header) ≡ false → nextPiece sync p ws ≡ strayThere e
+      pub strayed : starts (e .header) ≡ false → nextPiece sync ws p ≡ strayThere e
       strayed s = image ∙ ap (λ (b : Bool). cond b (frameThere sync ws (e .position .0)) (strayThere e)) s
 
     -- a frame starts at the place of a chunk that starts one

@@ -15,7 +15,7 @@ use Rattle.base.specs.Room.{put}
 use Rattle.base.proofs.Refused.{spared, answer-yes}
 use Rattle.parity.specs.declared.Judged.{Judged}
 use Rattle.parity.specs.Unit.{Finding, sound, parityBit, dataBit, neither, finding, flipped, repaired, unitData}
-use Rattle.parity.specs.Unit.{isNeither, unitCauses, unitRefusal, refused, named, judged, checkCauses, checkRefusal, checked, afterCheck}
+use Rattle.parity.specs.Unit.{isNeither, judgeCauses, judgeVerdict, refused, named, judgeReply, checkCauses, checkVerdict, checkReply, checkRoom}
 use Rattle.parity.proofs.Judging.{judged-refusal}
 use Rattle.frame.proofs.Filling as filling
 use Rattle.frame.proofs.Filling.{Filled, put-lent}
@@ -78,21 +78,21 @@ pub none-passed : (p : List ℕ) → Passed p 0
 none-passed p = record { within = omega arith; is = refl }
 
 module _ (p : List ℕ) (at : ℕ) (k : Passed p at) where
-  module _ (end : ℕ) (h : at < length p) (e : end ≡ at + min 264 (length p - at)) (r : Judged) (j : r ≡ judged (take (end - at) (drop at p))) where
-    number : unitRefusal (take (end - at) (drop at p)) ≡ r .refusal
+  module _ (end : ℕ) (h : at < length p) (e : end ≡ at + min 264 (length p - at)) (r : Judged) (j : r ≡ judgeReply (take (end - at) (drop at p))) where
+    number : judgeVerdict (take (end - at) (drop at p)) ≡ r .refusal
     number = sym (ap (λ (x : Judged). x .refusal) j ∙ judged-refusal (take (end - at) (drop at p)))
 
     pub hit : r .refusal ≡ wrongParity → true ≡ anyDamaged (unitsIn p)
     unfolding anyDamaged
     hit d =
-        let n : eqb (unitRefusal (take (end - at) (drop at p))) wrongParity ≡ true = eq-eqb (unitRefusal (take (end - at) (drop at p))) wrongParity (number ∙ d) in
+        let n : eqb (judgeVerdict (take (end - at) (drop at p))) wrongParity ≡ true = eq-eqb (judgeVerdict (take (end - at) (drop at p))) wrongParity (number ∙ d) in
         sym (ap anyDamaged (units-step p at end h e) ∙ ap (λ (b : Bool). b || anyDamaged (unitsIn (drop end p))) n) ∙ k .is
 
     pub passed : (r .refusal ≡ wrongParity → ⊥) → Passed p end
     unfolding anyDamaged
     passed d =
-        let n : eqb (unitRefusal (take (end - at) (drop at p))) wrongParity ≡ false =
-        ne-eqb (unitRefusal (take (end - at) (drop at p))) wrongParity (λ q. d (sym number ∙ q)) in
+        let n : eqb (judgeVerdict (take (end - at) (drop at p))) wrongParity ≡ false =
+        ne-eqb (judgeVerdict (take (end - at) (drop at p))) wrongParity (λ q. d (sym number ∙ q)) in
         record {
           within = omega (arith, k .within);
           is = sym (ap anyDamaged (units-step p at end h e) ∙ ap (λ (b : Bool). b || anyDamaged (unitsIn (drop end p))) n) ∙ k .is;
@@ -123,15 +123,15 @@ joined-length (u ∷ us) = length-append (unitData u) (joinedData us) ∙ ap₂ 
 -- each of these units is accepted
 abbrev pub Sound : List (List ℕ) → Type 0
 Sound [] = Unit {0}
-Sound (u ∷ us) = (unitRefusal u ≡ 0) × Sound us
+Sound (u ∷ us) = (judgeVerdict u ≡ 0) × Sound us
 
 pub or-false : (a b : Bool) → a || b ≡ false → (a ≡ false) × (b ≡ false)
 or-false false b e = (refl, e)
 or-false true b e = absurd (false≢true (sym e))
 
 -- a unit of 9 to 264 words that is not damaged is accepted
-unit-sound : (u : List ℕ) → 9 ≤ length u → length u ≤ 264 → eqb (unitRefusal u) wrongParity ≡ false → unitRefusal u ≡ 0
-unfolding unitRefusal
+unit-sound : (u : List ℕ) → 9 ≤ length u → length u ≤ 264 → eqb (judgeVerdict u) wrongParity ≡ false → judgeVerdict u ≡ 0
+unfolding judgeVerdict
 unit-sound u l m = rw (le-leb 9 (length u) l, le-leb (length u) 264 m) (by-finding (isNeither (finding u)))
   where
     by-finding : (b : Bool) → eqb (cond b wrongParity 0) wrongParity ≡ false → cond b wrongParity 0 ≡ 0
@@ -144,7 +144,7 @@ parts-sound zero p s d = tt
 parts-sound (suc n) p s d =
     let k : length (drop 264 p) ≡ length p - 264 = length-drop 264 p in
     let l : length (take 264 p) ≡ min 264 (length p) = length-take 264 p in
-    let b = or-false (eqb (unitRefusal (take 264 p)) wrongParity) (anyDamaged (parts n (drop 264 p))) d in (
+    let b = or-false (eqb (judgeVerdict (take 264 p)) wrongParity) (anyDamaged (parts n (drop 264 p))) d in (
       unit-sound (take 264 p) (omega (arith, s .most, s .least)) (omega arith) (b .0),
       parts-sound n (drop 264 p) (rw k (splits-less (length p) n s)) (b .1),
     )
@@ -157,8 +157,8 @@ pub record Given (p room₀ : List ℕ) (place : ℕ) (room : List ℕ) (at to :
 
 -- what the checker does with an accepted unit, in a room that is long enough
 record Gives (u room : List ℕ) : Type 0 where
-  writes : afterCheck u room ≡ put (unitData u) 0 room
-  says : checked u (length room) .length .0 ≡ length u - 8
+  writes : checkRoom u room ≡ put (unitData u) 0 room
+  says : checkReply u (length room) .length .0 ≡ length u - 8
 
 named-length : (f : Finding) (k : ℕ) → named f k .length .0 ≡ k
 named-length sound k = refl
@@ -166,10 +166,10 @@ named-length (parityBit w b) k = refl
 named-length (dataBit w b) k = refl
 named-length neither k = refl
 
-gives : (u room : List ℕ) → unitRefusal u ≡ 0 → length u - 8 ≤ length room → Gives u room
-unfolding unitRefusal checkRefusal checked afterCheck
+gives : (u room : List ℕ) → judgeVerdict u ≡ 0 → length u - 8 ≤ length room → Gives u room
+unfolding judgeVerdict checkVerdict checkReply checkRoom
 gives u room a h =
-    let s = spared (unitCauses u) refl a in
+    let s = spared (judgeCauses u) refl a in
     let v : verdict (checkCauses u (length room)) ≡ 0 = rw (s .0, s .1 .0, le-ltb (length room) (length u - 8) h) in
     record {
       writes = answer-yes (verdict (checkCauses u (length room))) (λ n. room) (put (unitData u) 0 room) v;
@@ -208,14 +208,14 @@ module _ (p room₀ : List ℕ) (place : ℕ) (room : List ℕ) (at to : ℕ) (k
     here : Gives unit lent
     here = gives unit lent (sounds .0) (omega (arith, fits, length-take (length room - to) (drop to room), length-drop to room))
 
-    module _ (r : Judged) (c : r ≡ checked unit (length lent)) where
+    module _ (r : Judged) (c : r ≡ checkReply unit (length lent)) where
       words : r .length .0 ≡ length unit - 8
       words = ap (λ (x : Judged). x .length .0) c ∙ here .says
 
       pub room-left : to + r .length .0 ≤ length room
       room-left = omega (arith, fits, words)
 
-      pub given : (tail : List ℕ) → tail ≡ afterCheck unit lent → Given p room₀ place (putMid to (length room - to) room tail) end (to + r .length .0)
+      pub given : (tail : List ℕ) → tail ≡ checkRoom unit lent → Given p room₀ place (putMid to (length room - to) room tail) end (to + r .length .0)
       given tail w =
           record {
             within = omega (arith, k .within);

@@ -133,7 +133,7 @@ module _ (sync : ℕ) (ws : List ℕ) (s : startsFrame sync ws ≡ true) where
       omega (arith, r .within, ap listedWords frame-is)
 
   -- whether the frame is complete is a question about the place where it ends
-  pub complete-at : complete sync ws ≡ closesFrame sync (frameCamera ws) (drop (frameWords sync ws) ws)
+  pub complete-at : complete sync ws ≡ closesFrame sync (drop (frameWords sync ws) ws) (frameCamera ws)
   unfolding complete listedWords
   complete-at =
       let es : List Entry = ahead sync ws first (span first) in
@@ -143,16 +143,16 @@ module _ (sync : ℕ) (ws : List ℕ) (s : startsFrame sync ws ≡ true) where
       ap (λ (n : ℕ). drop n (reading sync ws)) (ap length frame-is)
       ∙ ap (drop (suc (length es))) (next-here sync ws 0 begun .lists ∙ ap (λ (n : ℕ). entry 0 first ∷ listedFrom sync ws n) (zero-add (span first)))
       ∙ r .on ∙ ap (listedFrom sync ws) (sym w) in
-      ap (closes (frameCamera ws) (frameWords sync ws) ws) d ∙ closes-at sync (frameCamera ws) ws (frameWords sync ws)
+      ap (closes ws (frameWords sync ws) (frameCamera ws)) d ∙ closes-at sync (frameCamera ws) ws (frameWords sync ws)
       ∙ rw (getD-drop (frameWords sync ws) ws 1 0, add-one, drop-drop 2 (frameWords sync ws) ws)
 
   -- a frame is described by how far it reaches and what stands at its end
   pub described-is : (r : Reach) (cam : ℕ) (b : Bool) → r ≡ reachOf sync ws → cam ≡ frameCamera ws
-      → b ≡ closesFrame sync cam (take (length ws - r .end) (drop (r .end) ws)) → frame 0 cam (r .chunks) b (r .length) ≡ described sync ws
+      → b ≡ closesFrame sync (take (length ws - r .end) (drop (r .end) ws)) cam → frame 0 cam (r .chunks) b (r .length) ≡ described sync ws
   unfolding described
   described-is r cam b e f g =
       let n : r .end ≡ frameWords sync ws = ap (λ (x : Reach). x .end) e in
       let w : b ≡ complete sync ws =
-      g ∙ ap (closesFrame sync cam) (to-end (r .end) ws ∙ ap (λ (m : ℕ). drop m ws) n)
-      ∙ ap (λ (x : ℕ). closesFrame sync x (drop (frameWords sync ws) ws)) f ∙ sym complete-at in
+      g ∙ ap (λ (x : List ℕ). closesFrame sync x cam) (to-end (r .end) ws ∙ ap (λ (m : ℕ). drop m ws) n)
+      ∙ ap (λ (x : ℕ). closesFrame sync (drop (frameWords sync ws) ws) x) f ∙ sym complete-at in
       rw (e, f, w)

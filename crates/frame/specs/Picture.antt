@@ -7,7 +7,7 @@ use lib.Dec.{eqb}
 use Rattle.base.specs.Refusal.{wrongParity}
 use Rattle.chunk.specs.declared.Entry.{Entry}
 use Rattle.chunk.specs.Header.{size}
-use Rattle.parity.specs.Unit.{unitRefusal, unitData}
+use Rattle.parity.specs.Unit.{judgeVerdict, unitData}
 use Rattle.frame.specs.Shape.{frameChunks}
 
 -- these words in n parts of 264, the last one possibly shorter
@@ -39,7 +39,7 @@ frameUnits sync ws = unitsOf ws (frameChunks sync ws)
 -- a unit among these that is refused with 6
 unfoldable pub anyDamaged : List (List ℕ) → Bool
 anyDamaged [] = false
-anyDamaged (u ∷ us) = eqb (unitRefusal u) wrongParity || anyDamaged us
+anyDamaged (u ∷ us) = eqb (judgeVerdict u) wrongParity || anyDamaged us
 
 -- the data of these units joined
 unfoldable pub joinedData : List (List ℕ) → List ℕ

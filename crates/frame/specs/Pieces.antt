@@ -50,5 +50,5 @@ firstPiece sync ws (e ∷ es) =
     ]
 
 -- the next frame or stray from the place p on, where no chunk and no frame is in hand
-abbrev pub nextPiece : ℕ → ℕ → List ℕ → Piece
-nextPiece sync p ws = firstPiece sync ws (listed sync p 0 (drop p ws))
+abbrev pub nextPiece : ℕ → List ℕ → ℕ → Piece
+nextPiece sync ws p = firstPiece sync ws (listed sync p 0 (drop p ws))

@@ -31,34 +31,34 @@ abbrev pub tooLong : List ℕ → Bool
 tooLong ws = ltb recordingLimit (length ws)
 
 -- no listed chunk that starts a frame stands at the place
-abbrev pub noFrame : ℕ → ℕ → List ℕ → Bool
-noFrame sync p ws = not (listedAt sync p ws && starts (getD (drop p ws) 1 0))
+abbrev pub noFrame : ℕ → List ℕ → ℕ → Bool
+noFrame sync ws p = not (listedAt sync ws p && starts (getD (drop p ws) 1 0))
 
 -- what a frame is
-abbrev pub atCauses : ℕ → ℕ → List ℕ → Causes
-atCauses sync p ws = (wrongLength, tooLong ws) ∷ (nothingThere, noFrame sync p ws) ∷ []
+abbrev pub atCauses : ℕ → List ℕ → ℕ → Causes
+atCauses sync ws p = (wrongLength, tooLong ws) ∷ (nothingThere, noFrame sync ws p) ∷ []
 
-unfoldable pub frameAt : ℕ → ℕ → List ℕ → Frame
-frameAt sync p ws = answer (verdict (atCauses sync p ws)) refused (described sync (drop p ws))
+unfoldable pub atReply : ℕ → List ℕ → ℕ → Frame
+atReply sync ws p = answer (verdict (atCauses sync ws p)) refused (described sync (drop p ws))
 
 -- whether its data can be had: it is complete, and no unit of it is refused
-abbrev pub judgeCauses : ℕ → ℕ → List ℕ → Causes
-judgeCauses sync p ws =
-    (wrongLength, tooLong ws) ∷ (nothingThere, noFrame sync p ws) ∷ (frameCut, not (complete sync (drop p ws)))
+abbrev pub judgeCauses : ℕ → List ℕ → ℕ → Causes
+judgeCauses sync ws p =
+    (wrongLength, tooLong ws) ∷ (nothingThere, noFrame sync ws p) ∷ (frameCut, not (complete sync (drop p ws)))
     ∷ (wrongParity, anyDamaged (frameUnits sync (drop p ws))) ∷ []
 
-unfoldable pub judged : ℕ → ℕ → List ℕ → Frame
-judged sync p ws = answer (verdict (judgeCauses sync p ws)) refused (described sync (drop p ws))
+unfoldable pub judgeReply : ℕ → List ℕ → ℕ → Frame
+judgeReply sync ws p = answer (verdict (judgeCauses sync ws p)) refused (described sync (drop p ws))
 
 -- its data, in a room of m words
-abbrev pub readCauses : ℕ → ℕ → List ℕ → ℕ → Causes
-readCauses sync p ws m =
-    (wrongLength, tooLong ws) ∷ (nothingThere, noFrame sync p ws) ∷ (frameCut, not (complete sync (drop p ws)))
+abbrev pub readCauses : ℕ → List ℕ → ℕ → ℕ → Causes
+readCauses sync ws p m =
+    (wrongLength, tooLong ws) ∷ (nothingThere, noFrame sync ws p) ∷ (frameCut, not (complete sync (drop p ws)))
     ∷ (wrongParity, anyDamaged (frameUnits sync (drop p ws))) ∷ (noRoom, ltb m (frameLength sync (drop p ws))) ∷ []
 
-unfoldable pub readReply : ℕ → ℕ → List ℕ → ℕ → Frame
-readReply sync p ws m = answer (verdict (readCauses sync p ws m)) refused (described sync (drop p ws))
+unfoldable pub readReply : ℕ → List ℕ → ℕ → ℕ → Frame
+readReply sync ws p m = answer (verdict (readCauses sync ws p m)) refused (described sync (drop p ws))
 
 -- the room after the call: the joined data at its front and every other word as it was
-unfoldable pub afterRead : ℕ → ℕ → List ℕ → List ℕ → List ℕ
-afterRead sync p ws room = answer (verdict (readCauses sync p ws (length room))) (λ v. room) (put (frameData sync (drop p ws)) 0 room)
+unfoldable pub readRoom : ℕ → List ℕ → ℕ → List ℕ → List ℕ
+readRoom sync ws p room = answer (verdict (readCauses sync ws p (length room))) (λ v. room) (put (frameData sync (drop p ws)) 0 room)

@@ -58,18 +58,18 @@ abbrev pub frameCamera : List ℕ → ℕ
 frameCamera ws = camera (getD ws 1 0)
 
 -- the packet at the front of these words is sound and of type 3 plus the camera
-abbrev pub observes : ℕ → List ℕ → Bool
-observes cam ws = soundPacket (take 32 ws) && eqb (packetType ws) (3 + cam)
+abbrev pub observes : List ℕ → ℕ → Bool
+observes ws cam = soundPacket (take 32 ws) && eqb (packetType ws) (3 + cam)
 
 -- the next listed chunk after a frame that ends at `end` follows with no skipped word, is health, and its first packet observes the frame's camera
-unfoldable pub closes : ℕ → ℕ → List ℕ → List Entry → Bool
-closes cam end ws [] = false
-closes cam end ws (e ∷ es) = eqb (e .position .0) end && eqb (kind (e .header)) 1 && observes cam (drop (end + 2) ws)
+unfoldable pub closes : List ℕ → ℕ → ℕ → List Entry → Bool
+closes ws end cam [] = false
+closes ws end cam (e ∷ es) = eqb (e .position .0) end && eqb (kind (e .header)) 1 && observes (drop (end + 2) ws) cam
 
 -- a health chunk stands at the front of these words, and its first packet observes the camera
-abbrev pub closesFrame : ℕ → ℕ → List ℕ → Bool
-closesFrame sync cam ws = confirmed sync ws && eqb (kind (getD ws 1 0)) 1 && observes cam (drop 2 ws)
+abbrev pub closesFrame : ℕ → List ℕ → ℕ → Bool
+closesFrame sync ws cam = confirmed sync ws && eqb (kind (getD ws 1 0)) 1 && observes (drop 2 ws) cam
 
 -- complete, else cut
 unfoldable pub complete : ℕ → List ℕ → Bool
-complete sync ws = closes (frameCamera ws) (frameWords sync ws) ws (drop (length (frameChunks sync ws)) (reading sync ws))
+complete sync ws = closes ws (frameWords sync ws) (frameCamera ws) (drop (length (frameChunks sync ws)) (reading sync ws))

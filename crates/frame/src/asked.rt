@@ -9,9 +9,9 @@ use chunk::reading;
 ghost use mathlib.Core.Path.{_≡_};
 ghost use lib.ListN.{length};
 ghost use Rattle.base.specs.Refusal.{verdict};
-ghost use Rattle.frame.specs.Replies.{refused, atCauses, frameAt, judged, readReply, afterRead};
+ghost use Rattle.frame.specs.Replies.{refused, atCauses, atReply, judgeReply, readReply, readRoom};
 
-fn refuse(number: u8) -> Frame
+fn refused(number: u8) -> Frame
     ensures { λ r. ⌜ r ≡ refused number ⌝ }
 {
     Frame {
@@ -25,7 +25,7 @@ fn refuse(number: u8) -> Frame
 
 // The refusal number for a place of a recording.
 fn find(recording: &[u16], sync: u16, place: Words) -> u8
-    ensures { λ r. ⌜ r ≡ verdict (atCauses sync (place .0) (now (recording .entry))) ⌝ }
+    ensures { λ r. ⌜ r ≡ verdict (atCauses sync (now (recording .entry)) (place .0)) ⌝ }
 {
     if limit::RECORDING < recording.len() {
         return refusal::LENGTH;
@@ -43,11 +43,11 @@ fn find(recording: &[u16], sync: u16, place: Words) -> u8
 
 // What the frame at a place is, complete or cut.
 pub fn at(recording: &[u16], sync: u16, place: Words) -> Frame
-    ensures { λ r. ⌜ r ≡ frameAt sync (place .0) (now (recording .entry)) ⌝ }
+    ensures { λ r. ⌜ r ≡ atReply sync (now (recording .entry)) (place .0) ⌝ }
 {
     let verdict = find(recording, sync, place);
     if verdict != 0 {
-        return refuse(verdict);
+        return refused(verdict);
     }
     let from = place.0;
     let words = &recording[from..];
@@ -57,40 +57,40 @@ pub fn at(recording: &[u16], sync: u16, place: Words) -> Frame
 
 // Whether the frame's data can be had: it is complete, and no unit of it is refused.
 pub fn judge(recording: &[u16], sync: u16, place: Words) -> Frame
-    ensures { λ r. ⌜ r ≡ judged sync (place .0) (now (recording .entry)) ⌝ }
+    ensures { λ r. ⌜ r ≡ judgeReply sync (now (recording .entry)) (place .0) ⌝ }
 {
     let frame = at(recording, sync, place);
     if frame.refusal != 0 {
         return frame;
     }
     if !frame.complete {
-        return refuse(refusal::FRAME_CUT);
+        return refused(refusal::FRAME_CUT);
     }
     let begins = place.0;
     if picture::damaged(&recording[begins..], sync) {
-        return refuse(refusal::PARITY);
+        return refused(refusal::PARITY);
     }
     frame
 }
 
 // The reader's reply, for a room of so many words.
 fn look(recording: &[u16], sync: u16, place: Words, room: usize) -> Frame
-    ensures { λ r. ⌜ r ≡ readReply sync (place .0) (now (recording .entry)) room ⌝ }
+    ensures { λ r. ⌜ r ≡ readReply sync (now (recording .entry)) (place .0) room ⌝ }
 {
     let frame = judge(recording, sync, place);
     if frame.refusal != 0 {
         return frame;
     }
     if room < frame.length.0 {
-        return refuse(refusal::ROOM);
+        return refused(refusal::ROOM);
     }
     frame
 }
 
 // The frame's data to the room.
 pub fn read(recording: &[u16], sync: u16, place: Words, room: &mut [u16]) -> Frame
-    ensures { λ r. ⌜ r ≡ readReply sync (place .0) (now (recording .entry)) (length (now (room .entry))) ⌝ }
-    ensures { λ _. ⌜ now (room .exit) ≡ afterRead sync (place .0) (now (recording .entry)) (now (room .entry)) ⌝ }
+    ensures { λ r. ⌜ r ≡ readReply sync (now (recording .entry)) (place .0) (length (now (room .entry))) ⌝ }
+    ensures { λ _. ⌜ now (room .exit) ≡ readRoom sync (now (recording .entry)) (place .0) (now (room .entry)) ⌝ }
 {
     let frame = look(recording, sync, place, room.len());
     if frame.refusal != 0 {

@@ -25,7 +25,7 @@ fn frame_there(words: &[u16], sync: u16, at: usize) -> Piece
 // The next frame or stray from a place on, where no frame is in hand: health chunks are passed. Going on from the place that it gives, a
 // program goes through a whole recording in one pass.
 pub fn next(words: &[u16], sync: u16, from: Words) -> Piece
-    ensures { λ r. ⌜ r ≡ nextPiece sync (from .0) (now (words .entry)) ⌝ }
+    ensures { λ r. ⌜ r ≡ nextPiece sync (now (words .entry)) (from .0) ⌝ }
 {
     let mut at = from.0;
     loop {

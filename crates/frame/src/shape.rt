@@ -100,7 +100,7 @@ pub fn measure(words: &[u16], sync: u16) -> Reach
 
 // Whether a health chunk stands at the front of these words whose first packet is sound and of the camera's type: the type is looked at first.
 fn closes(words: &[u16], sync: u16, camera: u16) -> bool
-    ensures { λ r. ⌜ r ≡ closesFrame sync camera (now (words .entry)) ⌝ }
+    ensures { λ r. ⌜ r ≡ closesFrame sync (now (words .entry)) camera ⌝ }
 {
     let health = header::kind_of(room::word_at(words, Words(1))) == 1;
     let observed = room::word_at(words, Words(2)) as u32 == 3 + camera as u32;

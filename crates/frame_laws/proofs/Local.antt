@@ -16,7 +16,7 @@ use Rattle.chunk.specs.declared.Entry.{Entry}
 use Rattle.chunk.specs.Header.{size, span, legal, headed, confirmed}
 use Rattle.chunk.specs.Reading.{entry, reading, listedWords, leftAt, listedAt}
 use Rattle.chunk.proofs.Headers.{headed-parts, confirmed-within}
-use Rattle.chunk_laws.specs.Stretch.{Chunk, words, entries, whole as wholeChunk, wholeRow}
+use Rattle.chunk_laws.specs.Stretch.{Laid, words, entries, whole as wholeChunk, wholeRow}
 use Rattle.chunk_laws.specs.Resync.{_∈_}
 use Rattle.chunk_laws.proofs.Tests.{and-both}
 use Rattle.chunk_laws.proofs.ByPlace.{listed-place}
@@ -68,7 +68,7 @@ module _ (sync : ℕ) (ws : List ℕ) where
   unfolding listedAt
   listed-stands e h =
       let t = listed-place sync ws e h in
-      record { word = t .1; confirms = and-right (eqb (leftAt sync 0 (e .position .0) ws) 0) _ (t .0) }
+      record { word = t .1; confirms = and-right (eqb (leftAt sync 0 ws (e .position .0)) 0) _ (t .0) }
 
   within : (e : Entry) → Stands sync ws e → e .position .0 + span (e .header) ≤ length ws
   within e s =
@@ -99,7 +99,7 @@ front sync m h (w ∷ k ∷ vs) q c =
 
 module _ (sync : ℕ) (ws : List ℕ) where
   -- the row of chunks that these entries say
-  abbrev rowOf : List Entry → List Chunk
+  abbrev rowOf : List Entry → List Laid
   rowOf [] = []
   rowOf (e ∷ es) = record { header = e .header; payload = payloadOf ws e } ∷ rowOf es
 

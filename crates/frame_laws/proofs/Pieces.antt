@@ -183,31 +183,31 @@ module _ (sync : ℕ) (ws : List ℕ) where
             let c : 1 ≤ camera (e .header) = leb-true 1 (camera (e .header)) (and-right (eqb (kind (e .header)) 0) _ z) in
             rw (and-left (eqb (kind (e .header)) 0) _ z) (ne-eqb (camera (e .header)) 0 (λ w. omega arith))
 
-  at-end : (p : ℕ) → nextFrom sync p ws ≡ Found.End → Says sync ws p (nextPiece sync p ws)
+  at-end : (p : ℕ) → nextFrom sync ws p ≡ Found.End → Says sync ws p (nextPiece sync ws p)
   unfolding framesAndStrays
   at-end p f = subst (Says sync ws p) (sym (none sync ws p f)) (ap (framesAndStrays 0 false) (ended sync ws p f .lists))
 
   -- a chunk was found: the piece is there, or the search goes on past a health chunk
-  at-chunk : (p : ℕ) (e : Entry) (n : Next sync ws p e) → Says sync ws (past e) (nextPiece sync (past e) ws) → Says sync ws p (nextPiece sync p ws)
+  at-chunk : (p : ℕ) (e : Entry) (n : Next sync ws p e) → Says sync ws (past e) (nextPiece sync ws (past e)) → Says sync ws p (nextPiece sync ws p)
   at-chunk p e n more = by-kind (eqb (kind (e .header)) 0) refl (starts (e .header)) refl
     where
-      by-kind : (k : Bool) → eqb (kind (e .header)) 0 ≡ k → (s : Bool) → starts (e .header) ≡ s → Says sync ws p (nextPiece sync p ws)
+      by-kind : (k : Bool) → eqb (kind (e .header)) 0 ≡ k → (s : Bool) → starts (e .header) ≡ s → Says sync ws p (nextPiece sync ws p)
       by-kind false k s y =
           subst (Says sync ws p) (sym (health-passed sync ws p e n (eqb-false (kind (e .header)) 0 k)))
-          (moves p (past e) (at-health p e n k) (nextPiece sync (past e) ws) more)
+          (moves p (past e) (at-health p e n k) (nextPiece sync ws (past e)) more)
       by-kind true k true y =
           subst (Says sync ws p) (sym (framed sync ws p e n (eqb-true (kind (e .header)) 0 k) y)) (at-frame p e n y)
       by-kind true k false y =
           subst (Says sync ws p) (sym (strayed sync ws p e n (eqb-true (kind (e .header)) 0 k) y)) (at-stray p e n k y)
 
-  by-found : (k p : ℕ) → length ws ≤ p + suc k → ((q : ℕ) → length ws ≤ q + k → Says sync ws q (nextPiece sync q ws))
-      → (f : Found) → nextFrom sync p ws ≡ f → Says sync ws p (nextPiece sync p ws)
+  by-found : (k p : ℕ) → length ws ≤ p + suc k → ((q : ℕ) → length ws ≤ q + k → Says sync ws q (nextPiece sync ws q))
+      → (f : Found) → nextFrom sync ws p ≡ f → Says sync ws p (nextPiece sync ws p)
   by-found k p h more End f = at-end p f
   by-found k p h more (Chunk e) f = let n = stepped sync ws p e f in at-chunk p e n (more (past e) (omega (arith, n .ahead)))
 
-  says-within : (k p : ℕ) → length ws ≤ p + k → Says sync ws p (nextPiece sync p ws)
+  says-within : (k p : ℕ) → length ws ≤ p + k → Says sync ws p (nextPiece sync ws p)
   says-within zero p h = at-end p (found-end sync ws p (omega arith))
-  says-within (suc k) p h = by-found k p h (λ q. says-within k q) (nextFrom sync p ws) refl
+  says-within (suc k) p h = by-found k p h (λ q. says-within k q) (nextFrom sync ws p) refl
 
-  pub says : (p : ℕ) → Says sync ws p (nextPiece sync p ws)
+  pub says : (p : ℕ) → Says sync ws p (nextPiece sync ws p)
   says p = says-within (length ws) p (omega arith)

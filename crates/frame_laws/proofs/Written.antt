@@ -19,7 +19,7 @@ use Rattle.chunk.specs.declared.Entry.{Entry}
 use Rattle.chunk.specs.Header.{size, kind, span, legalSize, confirmed}
 use Rattle.chunk.specs.Reading.{entry, listedWords}
 use Rattle.chunk.specs.Writing.{headerWord}
-use Rattle.chunk_laws.specs.Stretch.{Chunk, words, offset, entries, whole as wholeChunk, wholeRow}
+use Rattle.chunk_laws.specs.Stretch.{Laid, words, offset, entries, whole as wholeChunk, wholeRow}
 use Rattle.chunk_laws.specs.Written.{accepted, written}
 use Rattle.chunk_laws.proofs.Tests.{and-both}
 use Rattle.chunk_laws.proofs.Rows.{long, row-first, row-rest, row-confirmed, row-drop, lists-row, row-at, row-listed, payload-there}
@@ -29,7 +29,7 @@ use Rattle.health.specs.Writing.{packetFrom}
 use Rattle.health.proofs.RoundTrip.{written-sound}
 use Rattle.frame.specs.Shape.{starts, continues, whole, joining, frameOf, startsFrame, frameChunks, frameWords, frameCamera, observes, closesFrame, complete}
 use Rattle.frame.specs.Picture.{parts, unitsIn, payloadOf, unitsOf, frameUnits, anyDamaged, joinedData, dataWords}
-use Rattle.frame.specs.Replies.{frame, refused, described, tooLong, noFrame, atCauses, judgeCauses, readCauses, frameAt, judged, readReply, afterRead}
+use Rattle.frame.specs.Replies.{frame, refused, described, tooLong, noFrame, atCauses, judgeCauses, readCauses, atReply, judgeReply, readReply, readRoom}
 use Rattle.frame.proofs.Joining.{joining-one}
 use Rattle.frame.proofs.Units.{joined-length}
 use Rattle.frame.proofs.Walking.{complete-at}
@@ -87,12 +87,12 @@ held-sound (u ∷ us) (d ∷ ds) h = rw (h .0, held-sound us ds (h .2))
 
 -- ---- rows of whole chunks
 
-row-append : (cs ds : List Chunk) → wholeRow cs ≡ true → wholeRow ds ≡ true → wholeRow (cs ++ ds) ≡ true
+row-append : (cs ds : List Laid) → wholeRow cs ≡ true → wholeRow ds ≡ true → wholeRow (cs ++ ds) ≡ true
 unfolding wholeRow
 row-append [] ds k l = l
 row-append (c ∷ cs) ds k l = and-both (wholeChunk c) _ (row-first c cs k) (row-append cs ds (row-rest c cs k) l)
 
-row-words : (sync at : ℕ) (cs : List Chunk) → wholeRow cs ≡ true → listedWords (entries at cs) ≡ offset sync cs
+row-words : (sync at : ℕ) (cs : List Laid) → wholeRow cs ≡ true → listedWords (entries at cs) ≡ offset sync cs
 unfolding listedWords
 row-words sync at [] k = refl
 row-words sync at (c ∷ cs) k =
@@ -100,7 +100,7 @@ row-words sync at (c ∷ cs) k =
     let m = row-words sync (at + span (c .header)) cs (row-rest c cs k) in
     omega (arith, length-append (c .payload) (words sync cs))
 
-entry-count : (at : ℕ) (cs : List Chunk) → length (entries at cs) ≡ length cs
+entry-count : (at : ℕ) (cs : List Laid) → length (entries at cs) ≡ length cs
 entry-count at [] = refl
 entry-count at (c ∷ cs) = ap suc (entry-count (at + span (c .header)) cs)
 
@@ -130,12 +130,12 @@ frame-whole cam (us ∷ uss) w =
     and-both (wholeChunk (written 0 cam (joined us))) _ (written-whole 0 cam (joined us) (taken cam us uss w)) (frame-whole 0 uss (others cam us uss w))
 
 -- they hold its units
-frame-units : (sync at cam : ℕ) (v : List ℕ) (uss : List (List (List ℕ))) (rest : List Chunk) → writable cam uss ≡ true
+frame-units : (sync at cam : ℕ) (v : List ℕ) (uss : List (List (List ℕ))) (rest : List Laid) → writable cam uss ≡ true
     → drop at v ≡ words sync (frameRow cam uss ++ rest) → unitsOf v (entries at (frameRow cam uss)) ≡ allUnits uss
 unfolding unitsOf
 frame-units sync at cam v [] rest w e = refl
 frame-units sync at cam v (us ∷ uss) rest w e =
-    let c : Chunk = written 0 cam (joined us) in
+    let c : Laid = written 0 cam (joined us) in
     let h : ℕ = c .header in
     let k : wholeChunk c ≡ true = written-whole 0 cam (joined us) (taken cam us uss w) in
     let n : size h ≡ length (joined us) = sym (long c k) in
@@ -149,7 +149,7 @@ frame-units sync at cam v (us ∷ uss) rest w e =
     (frame-units sync (at + span h) 0 v uss rest (others cam us uss w) o)
 
 -- of the chunks after the first, the frame's own join, and no other, as the next is health
-joins-own : (health : Chunk) (after : List Chunk) → kind (health .header) ≡ 1 → (cam : ℕ) (us : List (List ℕ)) (uss : List (List (List ℕ)))
+joins-own : (health : Laid) (after : List Laid) → kind (health .header) ≡ 1 → (cam : ℕ) (us : List (List ℕ)) (uss : List (List (List ℕ)))
     → writable cam (us ∷ uss) ≡ true → fullButLast (us ∷ uss) ≡ true → (end : ℕ)
     → joining end (whole (headerWord 0 cam (length (joined us)))) (entries end (frameRow 0 uss ++ health ∷ after)) ≡ entries end (frameRow 0 uss)
 unfolding fullButLast
@@ -171,7 +171,7 @@ joins-own health after k cam us (vs ∷ uss) w f end =
 -- ---- the health chunk after it
 
 -- a health payload has a packet at the least, which is the same before other words
-observes-front : (cam : ℕ) (health rest : List ℕ) → accepted 1 0 health ≡ true → observes cam (health ++ rest) ≡ observes cam health
+observes-front : (cam : ℕ) (health rest : List ℕ) → accepted 1 0 health ≡ true → observes (health ++ rest) cam ≡ observes health cam
 unfolding legalSize
 observes-front cam health rest a =
     let n : ℕ = length health in
@@ -183,12 +183,12 @@ observes-front cam health rest a =
 
 -- ---- the frame comes back
 
-module _ (sync cam : ℕ) (us : List (List ℕ)) (uss : List (List (List ℕ))) (health : List ℕ) (after : List Chunk) (ds : List (List ℕ))
+module _ (sync cam : ℕ) (us : List (List ℕ)) (uss : List (List (List ℕ))) (health : List ℕ) (after : List Laid) (ds : List (List ℕ))
     (w : Written cam (us ∷ uss) health ds) (k : wholeRow after ≡ true) where
-  abbrev closing : Chunk
+  abbrev closing : Laid
   closing = written 1 0 health
 
-  abbrev row : List Chunk
+  abbrev row : List Laid
   row = frameRow cam (us ∷ uss)
 
   abbrev first : ℕ
@@ -236,7 +236,7 @@ module _ (sync cam : ℕ) (us : List (List ℕ)) (uss : List (List (List ℕ))) 
       let e : drop (frameWords sync here) here ≡ words sync (closing ∷ after) =
       ap (λ (n : ℕ). drop n here) (ap listedWords own-chunks ∙ row-words sync 0 row row-whole) ∙ row-at sync row (closing ∷ after) refl in
       let f : frameCamera here ≡ cam = camera-written 0 cam (joined us) first-taken in
-      complete-at sync here frame-starts ∙ ap₂ (closesFrame sync) f e
+      complete-at sync here frame-starts ∙ ap₂ (closesFrame sync) e f
       ∙ rw (
         row-confirmed sync closing after rest-whole,
         kind-written 1 0 health (w .closing),
@@ -256,7 +256,7 @@ module _ (sync cam : ℕ) (us : List (List ℕ)) (uss : List (List (List ℕ))) 
       ap length own-chunks ∙ entry-count 0 row ∙ chunk-count cam (us ∷ uss) in
       rw (camera-written 0 cam (joined us) first-taken, n, own-complete, length-is)
 
-  module _ (before : List Chunk) (j : wholeRow before ≡ true) (s : length (recordingOf sync cam before (us ∷ uss) health after) ≤ recordingLimit) where
+  module _ (before : List Laid) (j : wholeRow before ≡ true) (s : length (recordingOf sync cam before (us ∷ uss) health after) ≤ recordingLimit) where
     abbrev all : List ℕ
     all = recordingOf sync cam before (us ∷ uss) health after
 
@@ -269,7 +269,7 @@ module _ (sync cam : ℕ) (us : List (List ℕ)) (uss : List (List (List ℕ))) 
     short : tooLong all ≡ false
     short = le-ltb recordingLimit (length all) s
 
-    listed-there : noFrame sync place all ≡ false
+    listed-there : noFrame sync all place ≡ false
     listed-there =
         let r : wholeRow (before ++ (row ++ closing ∷ after)) ≡ true = row-append before (row ++ closing ∷ after) j here-whole in
         rw (row-listed sync before (written 0 cam (joined us)) (frameRow 0 uss ++ closing ∷ after) r, there, first-starts)
@@ -285,20 +285,20 @@ module _ (sync cam : ℕ) (us : List (List ℕ)) (uss : List (List (List ℕ))) 
     described-there = ap (described sync) there ∙ own-described
 
     -- nothing is refused, in a room that is large enough
-    accepts : (m : ℕ) → length (joined ds) ≤ m → verdict (readCauses sync place all m) ≡ 0
+    accepts : (m : ℕ) → length (joined ds) ≤ m → verdict (readCauses sync all place m) ≡ 0
     accepts m l =
         let f : ltb m (dataWords (frameUnits sync (drop place all))) ≡ false =
         le-ltb m _ (rw (ap (λ (v : List ℕ). dataWords (frameUnits sync v)) there ∙ length-is) l) in
         rw (short, listed-there, whole-there, sound-there, f)
 
     back : ComesBack sync cam place (length (us ∷ uss)) all ds
-    unfolding frameAt judged readReply afterRead
+    unfolding atReply judgeReply readReply readRoom
     back = record {
-      described = answer-yes (verdict (atCauses sync place all)) refused _ (rw (short, listed-there)) ∙ described-there;
-      judges = answer-yes (verdict (judgeCauses sync place all)) refused _ (rw (short, listed-there, whole-there, sound-there)) ∙ described-there;
-      replies = λ m l. answer-yes (verdict (readCauses sync place all m)) refused _ (accepts m l) ∙ described-there;
+      described = answer-yes (verdict (atCauses sync all place)) refused _ (rw (short, listed-there)) ∙ described-there;
+      judges = answer-yes (verdict (judgeCauses sync all place)) refused _ (rw (short, listed-there, whole-there, sound-there)) ∙ described-there;
+      replies = λ m l. answer-yes (verdict (readCauses sync all place m)) refused _ (accepts m l) ∙ described-there;
       gives = λ room l.
-          answer-yes (verdict (readCauses sync place all (length room))) (λ v. room) _ (accepts (length room) l)
+          answer-yes (verdict (readCauses sync all place (length room))) (λ v. room) _ (accepts (length room) l)
           ∙ ap (λ (d : List ℕ). put d 0 room) (ap (λ (v : List ℕ). joinedData (frameUnits sync v)) there ∙ data-is);
     }
 
@@ -311,7 +311,7 @@ comes-back sync cam before (us ∷ uss) health after ds w j k s = back sync cam 
 
 -- the observation packet of a camera, with any time and any 29 words, and any packets after it
 pub observation-observes : (cam time : ℕ) (ws packets : List ℕ) → 1 ≤ cam → cam ≤ 3 → length ws ≡ 29
-    → observes cam (packetFrom (3 + cam) time ws ++ packets) ≡ true
+    → observes (packetFrom (3 + cam) time ws ++ packets) cam ≡ true
 observation-observes cam time ws packets l m n =
     let p : List ℕ = packetFrom (3 + cam) time ws in
     let t : permittedType (3 + cam) ≡ true = rw (le-leb 1 (3 + cam) (omega arith), le-leb (3 + cam) 15 (omega arith)) in

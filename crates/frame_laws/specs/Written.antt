@@ -7,11 +7,11 @@ use lib.ListN.{length}
 use lib.Dec.{leb, eqb}
 use Rattle.base.specs.Room.{put}
 use Rattle.base.specs.Limit.{recordingLimit}
-use Rattle.chunk_laws.specs.Stretch.{Chunk, words, offset, wholeRow}
+use Rattle.chunk_laws.specs.Stretch.{Laid, words, offset, wholeRow}
 use Rattle.chunk_laws.specs.Written.{accepted, written}
-use Rattle.parity.specs.Unit.{unitRefusal, unitData}
+use Rattle.parity.specs.Unit.{judgeVerdict, unitData}
 use Rattle.frame.specs.Shape.{observes}
-use Rattle.frame.specs.Replies.{frame, frameAt, judged, readReply, afterRead}
+use Rattle.frame.specs.Replies.{frame, atReply, judgeReply, readReply, readRoom}
 
 -- lists joined
 unfoldable pub joined : List (List ℕ) → List ℕ
@@ -25,7 +25,7 @@ unitRow (u ∷ []) = leb 9 (length u) && leb (length u) 264
 unitRow (u ∷ v ∷ us) = eqb (length u) 264 && unitRow (v ∷ us)
 
 -- The chunks of a frame, each given by its units: the first has the camera, the others are continuations.
-abbrev pub frameRow : ℕ → List (List (List ℕ)) → List Chunk
+abbrev pub frameRow : ℕ → List (List (List ℕ)) → List Laid
 frameRow cam [] = []
 frameRow cam (us ∷ uss) = written 0 cam (joined us) ∷ frameRow 0 uss
 
@@ -50,7 +50,7 @@ abbrev pub Hold : List (List ℕ) → List (List ℕ) → Type 0
 Hold [] [] = Unit {0}
 Hold [] (d ∷ ds) = ⊥
 Hold (u ∷ us) [] = ⊥
-Hold (u ∷ us) (d ∷ ds) = (unitRefusal u ≡ 0) × (unitData u ≡ d) × Hold us ds
+Hold (u ∷ us) (d ∷ ds) = (judgeVerdict u ≡ 0) × (unitData u ≡ d) × Hold us ds
 
 -- A frame of a camera, and after it a health chunk whose first packet observes the camera. Its units hold the data `ds`.
 pub record Written (cam : ℕ) (uss : List (List (List ℕ))) (health : List ℕ) (ds : List (List ℕ)) : Type 0 where
@@ -58,24 +58,24 @@ pub record Written (cam : ℕ) (uss : List (List (List ℕ))) (health : List ℕ
   pub image : writable cam uss ≡ true
   pub full : fullButLast uss ≡ true
   pub closing : accepted 1 0 health ≡ true
-  pub observed : observes cam health ≡ true
+  pub observed : observes health cam ≡ true
   pub hold : Hold (allUnits uss) ds
 
 -- the words of a recording in which they stand after the chunks `before`, with the chunks `after` after them
-abbrev pub recordingOf : ℕ → ℕ → List Chunk → List (List (List ℕ)) → List ℕ → List Chunk → List ℕ
+abbrev pub recordingOf : ℕ → ℕ → List Laid → List (List (List ℕ)) → List ℕ → List Laid → List ℕ
 recordingOf sync cam before uss health after = words sync (before ++ (frameRow cam uss ++ written 1 0 health ∷ after))
 
 -- The frame of n chunks at the place p comes back: it is complete, and its data, in a room that has as many words at the least, are `ds` joined.
 pub record ComesBack (sync cam p n : ℕ) (ws : List ℕ) (ds : List (List ℕ)) : Type 0 where
-  pub described : frameAt sync p ws ≡ frame 0 cam n true (length (joined ds))
-  pub judges : judged sync p ws ≡ frame 0 cam n true (length (joined ds))
-  pub replies : (m : ℕ) → length (joined ds) ≤ m → readReply sync p ws m ≡ frame 0 cam n true (length (joined ds))
-  pub gives : (room : List ℕ) → length (joined ds) ≤ length room → afterRead sync p ws room ≡ put (joined ds) 0 room
+  pub described : atReply sync ws p ≡ frame 0 cam n true (length (joined ds))
+  pub judges : judgeReply sync ws p ≡ frame 0 cam n true (length (joined ds))
+  pub replies : (m : ℕ) → length (joined ds) ≤ m → readReply sync ws p m ≡ frame 0 cam n true (length (joined ds))
+  pub gives : (room : List ℕ) → length (joined ds) ≤ length room → readRoom sync ws p room ≡ put (joined ds) 0 room
 
 -- Every such frame comes back, in every recording of whole chunks that is not too long.
 abbrev pub FramesComeBack : Type 0
 FramesComeBack =
-    (sync cam : ℕ) (before : List Chunk) (uss : List (List (List ℕ))) (health : List ℕ) (after : List Chunk) (ds : List (List ℕ))
+    (sync cam : ℕ) (before : List Laid) (uss : List (List (List ℕ))) (health : List ℕ) (after : List Laid) (ds : List (List ℕ))
     → Written cam uss health ds → wholeRow before ≡ true → wholeRow after ≡ true
     → length (recordingOf sync cam before uss health after) ≤ recordingLimit
     → ComesBack sync cam (offset sync before) (length uss) (recordingOf sync cam before uss health after) ds

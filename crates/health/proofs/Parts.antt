@@ -1,4 +1,4 @@
--- Parts of a packet: a part written over a whole array is the array, and the CRC goes part by part. Assumes nothing.
+-- Parts of a packet: a part written over a whole array is the array, and the CRC goes part by part.
 use mathlib.Core.Path.{_≡_, sym, ap, _∙_}
 use mathlib.Core.List.{List, [], _∷_, _++_, append-nil}
 use Prim.Native.Nat.{ℕ, _+_, _-_, _≤_}

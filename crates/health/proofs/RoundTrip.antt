@@ -1,5 +1,5 @@
 -- What the writer writes the reader gives back, for every type that the writer takes, every time and every 29 words; and a sound packet is what the
--- writer makes of its parts. Assumes nothing.
+-- writer makes of its parts.
 use mathlib.Core.Path.{_≡_, refl, sym, ap, _∙_}
 use mathlib.Core.Bool.{true, _&&_}
 use mathlib.Core.List.{List, [], _∷_}
@@ -14,8 +14,8 @@ use Rattle.base.specs.Refusal.{verdict}
 use Rattle.base.proofs.Refused.{answer-yes}
 use Rattle.base.proofs.RoomLaws.{put-fits}
 use Rattle.health.specs.Packet.{packetType, packetTime, packetWords, packetCrc, crcRight, permittedType, soundPacket}
-use Rattle.health.specs.Reading.{packetCauses, packetOf, readPacket}
-use Rattle.health.specs.Writing.{writableType, writtenCrc, packetFrom, writeVerdict, roomAfter}
+use Rattle.health.specs.Reading.{readCauses, packetOf, readReply}
+use Rattle.health.specs.Writing.{writableType, writtenCrc, packetFrom, writeVerdict, writeRoom}
 use Rattle.health.proofs.Sound.{sound-verdict, sound-long}
 
 module _ (t s : ℕ) (ws : List ℕ) (takes : writableType t ≡ true) (long : length ws ≡ 29) where
@@ -26,20 +26,20 @@ module _ (t s : ℕ) (ws : List ℕ) (takes : writableType t ≡ true) (long : l
   unfolding soundPacket packetCrc writtenCrc
   written-sound = simp (eq-eqb (length (packetFrom t s ws)) 32 long-packet, eq-eqb (writtenCrc t s ws) (writtenCrc t s ws) refl, takes)
 
-  pub written-read : readPacket (packetFrom t s ws) ≡ packetOf 0 t s ws
-  unfolding readPacket
+  pub written-read : readReply (packetFrom t s ws) ≡ packetOf 0 t s ws
+  unfolding readReply
   written-read =
       let p = packetFrom t s ws in
-      answer-yes (verdict (packetCauses p)) _ _ (eqb-true _ 0 (sound-verdict p ∙ written-sound))
+      answer-yes (verdict (readCauses p)) _ _ (eqb-true _ 0 (sound-verdict p ∙ written-sound))
 
   -- through the lent room
-  pub room-read : (room : List ℕ) → 32 ≤ length room → readPacket (take 32 (roomAfter t s ws room)) ≡ packetOf 0 t s ws
-  unfolding roomAfter
+  pub room-read : (room : List ℕ) → 32 ≤ length room → readReply (take 32 (writeRoom t s ws room)) ≡ packetOf 0 t s ws
+  unfolding writeRoom
   room-read room fits =
       let p = packetFrom t s ws in
       let accepted : writeVerdict t (length ws) (length room) ≡ 0 = simp (takes, eq-eqb (length ws) 29 long, le-ltb (length room) 32 fits) in
-      ap (λ (x : List ℕ). readPacket (take 32 x)) (answer-yes _ _ _ accepted ∙ put-fits p 0 room (omega arith))
-      ∙ ap readPacket (take-at p (drop (0 + length p) room) 32 long-packet)
+      ap (λ (x : List ℕ). readReply (take 32 x)) (answer-yes _ _ _ accepted ∙ put-fits p 0 room (omega arith))
+      ∙ ap readReply (take-at p (drop (0 + length p) room) 32 long-packet)
       ∙ written-read
 
 pub rewritten : (p : List ℕ) → soundPacket p ≡ true → packetFrom (packetType p) (packetTime p) (packetWords p) ≡ p

@@ -1,4 +1,4 @@
--- Sound packets: their verdict is 0, and they have 32 words. Assumes nothing.
+-- Sound packets: their verdict is 0, and they have 32 words.
 use mathlib.Core.Path.{_≡_, refl, sym, _∙_}
 use mathlib.Core.Bool.{Bool, true, false, cond, not, _&&_}
 use mathlib.Core.List.{List}
@@ -11,7 +11,7 @@ use Rattle.base.proofs.Booleans.{and-left}
 use Rattle.base.specs.Refusal.{verdict}
 use Rattle.base.proofs.Refused.{spared}
 use Rattle.health.specs.Packet.{soundPacket, crcRight, permittedType, packetType}
-use Rattle.health.specs.Reading.{packetCauses, readerCauses}
+use Rattle.health.specs.Reading.{readCauses, judgeCauses}
 
 none-holds : (a b c : Bool) → eqb (cond (not a) 1 (cond (not b) 5 (cond (not c) 7 0))) 0 ≡ a && b && c
 none-holds true true true = refl
@@ -20,7 +20,7 @@ none-holds true false c = refl
 none-holds false b c = refl
 
 -- the reader refuses exactly what is not sound
-pub sound-verdict : (p : List ℕ) → eqb (verdict (packetCauses p)) 0 ≡ soundPacket p
+pub sound-verdict : (p : List ℕ) → eqb (verdict (readCauses p)) 0 ≡ soundPacket p
 unfolding soundPacket
 sound-verdict p = none-holds (eqb (length p) 32) (crcRight p) (permittedType (packetType p))
 
@@ -35,15 +35,15 @@ sound-long p e =
     eqb-true (length p) 32 (and-left long (crcRight p) (and-left (long && crcRight p) (permittedType (packetType p)) e))
 
 -- a verdict of 0 is given to 32 words alone
-pub judged-long : (odd : Bool) (p : List ℕ) {v : ℕ} → v ≡ verdict (readerCauses odd p) → v ≡ 0 → length p ≡ 32
-judged-long odd p e z = eqb-true (length p) 32 (not-false (eqb (length p) 32) (spared (readerCauses odd p) refl (sym e ∙ z) .0))
+pub judged-long : (odd : Bool) (p : List ℕ) {v : ℕ} → v ≡ verdict (judgeCauses p odd) → v ≡ 0 → length p ≡ 32
+judged-long odd p e z = eqb-true (length p) 32 (not-false (eqb (length p) 32) (spared (judgeCauses p odd) refl (sym e ∙ z) .0))
 
-pub packet-long : (p : List ℕ) {v : ℕ} → v ≡ verdict (packetCauses p) → v ≡ 0 → length p ≡ 32
+pub packet-long : (p : List ℕ) {v : ℕ} → v ≡ verdict (readCauses p) → v ≡ 0 → length p ≡ 32
 packet-long p e z = judged-long (not (permittedType (packetType p))) p e z
 
 -- a verdict of 0 is given to what is the reader's own alone
-pub judged-own : (own : Bool) (p : List ℕ) {v : ℕ} → v ≡ verdict (readerCauses (not own) p) → v ≡ 0 → own ≡ true
-judged-own own p e z = not-false own (spared (readerCauses (not own) p) refl (sym e ∙ z) .1 .1 .0)
+pub judged-own : (own : Bool) (p : List ℕ) {v : ℕ} → v ≡ verdict (judgeCauses p (not own)) → v ≡ 0 → own ≡ true
+judged-own own p e z = not-false own (spared (judgeCauses p (not own)) refl (sym e ∙ z) .1 .1 .0)
 
 -- a part that reaches past the end has fewer words
 pub none-there : (ws : List ℕ) (at : ℕ) → length ws < at + 32 → soundPacket (take 32 (drop at ws)) ≡ false

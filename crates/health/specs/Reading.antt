@@ -9,16 +9,16 @@ use Rattle.health.specs.declared.packet.Packet.{Packet}
 use Rattle.health.specs.Packet.{packetType, packetTime, packetWords, crcRight, permittedType}
 
 -- The causes of every reader of a packet p: not of 32 words; another CRC; a type word or field with an unspecified value.
-abbrev pub readerCauses : Bool → List ℕ → Causes
-readerCauses odd p = (wrongLength, not (eqb (length p) 32)) ∷ (wrongCrc, not (crcRight p)) ∷ (unspecified, odd) ∷ []
+abbrev pub judgeCauses : List ℕ → Bool → Causes
+judgeCauses p odd = (wrongLength, not (eqb (length p) 32)) ∷ (wrongCrc, not (crcRight p)) ∷ (unspecified, odd) ∷ []
 
 -- the packet reader takes any sound packet
-abbrev pub packetCauses : List ℕ → Causes
-packetCauses p = readerCauses (not (permittedType (packetType p))) p
+abbrev pub readCauses : List ℕ → Causes
+readCauses p = judgeCauses p (not (permittedType (packetType p)))
 
 abbrev pub packetOf : ℕ → ℕ → ℕ → List ℕ → Packet
-packetOf v t s ws = record { refusal = v; kind = t; time = s; words = ws }
+packetOf v t s ws = record { refusal = v; «packet_type» = t; time = s; words = ws }
 
 -- type, time and the 29 words of a sound packet
-unfoldable pub readPacket : List ℕ → Packet
-readPacket p = answer (verdict (packetCauses p)) (λ v. packetOf v 0 0 (replicate 29 0)) (packetOf 0 (packetType p) (packetTime p) (packetWords p))
+unfoldable pub readReply : List ℕ → Packet
+readReply p = answer (verdict (readCauses p)) (λ v. packetOf v 0 0 (replicate 29 0)) (packetOf 0 (packetType p) (packetTime p) (packetWords p))

@@ -33,5 +33,5 @@ abbrev pub writeReply : ℕ → ℕ → ℕ → Written
 writeReply t n room = settled (writeVerdict t n room) 32
 
 -- the room after the call: as it was on a refusal
-unfoldable pub roomAfter : ℕ → ℕ → List ℕ → List ℕ → List ℕ
-roomAfter t s ws room = answer (writeVerdict t (length ws) (length room)) (λ v. room) (put (packetFrom t s ws) 0 room)
+unfoldable pub writeRoom : ℕ → ℕ → List ℕ → List ℕ → List ℕ
+writeRoom t s ws room = answer (writeVerdict t (length ws) (length room)) (λ v. room) (put (packetFrom t s ws) 0 room)

@@ -7,8 +7,8 @@ ghost use mathlib.Core.Path.{_≡_};
 ghost use lib.ListN.{length, take, drop};
 ghost use Rattle.base.specs.Refusal.{verdict};
 ghost use Rattle.health.specs.Packet.{packetCrc, permittedType, soundPacket};
-ghost use Rattle.health.specs.Reading.{readerCauses, packetCauses, readPacket};
-ghost use Rattle.health.specs.Writing.{writableType, writeReply, roomAfter, writtenCrc};
+ghost use Rattle.health.specs.Reading.{judgeCauses, readCauses, readReply};
+ghost use Rattle.health.specs.Writing.{writableType, writeReply, writeRoom, writtenCrc};
 
 // the words of a packet
 pub const SIZE: usize = 32;
@@ -16,23 +16,23 @@ pub const SIZE: usize = 32;
 // What the packet reader gives of a sound packet: its type word, its time and the 29 words after these.
 pub struct Packet {
     pub refusal: u8,
-    pub kind: u16,
+    pub packet_type: u16,
     pub time: u16,
     pub words: [u16; 29],
 }
 
 // The types that readers take: 1 to 15, and all with low four bits 0, which are spare.
-fn permitted(kind: u16) -> bool
-    ensures { λ r. ⌜ r ≡ permittedType kind ⌝ }
+fn permitted(packet_type: u16) -> bool
+    ensures { λ r. ⌜ r ≡ permittedType «packet_type» ⌝ }
 {
-    (1 <= kind) & (kind <= 15) | (kind % 16 == 0)
+    (1 <= packet_type) & (packet_type <= 15) | (packet_type % 16 == 0)
 }
 
 // The types that the writer takes.
-fn writable(kind: u16) -> bool
-    ensures { λ r. ⌜ r ≡ writableType kind ⌝ }
+fn writable(packet_type: u16) -> bool
+    ensures { λ r. ⌜ r ≡ writableType «packet_type» ⌝ }
 {
-    permitted(kind)
+    permitted(packet_type)
 }
 
 // The CRC over word 0 and words 2 to 31.
@@ -45,7 +45,7 @@ fn packet_crc(packet: &[u16]) -> u16
 
 // The verdict on a packet for a reader; `odd` says that its type or a field of it is none of the reader's.
 pub fn judge(packet: &[u16], odd: bool) -> u8
-    ensures { λ r. ⌜ r ≡ verdict (readerCauses odd (now (packet .entry))) ⌝ }
+    ensures { λ r. ⌜ r ≡ verdict (judgeCauses (now (packet .entry)) odd) ⌝ }
 {
     if packet.len() != SIZE {
         return refusal::LENGTH;
@@ -60,7 +60,7 @@ pub fn judge(packet: &[u16], odd: bool) -> u8
 
 // The packet reader's verdict.
 fn read_verdict(packet: &[u16]) -> u8
-    ensures { λ r. ⌜ r ≡ verdict (packetCauses (now (packet .entry))) ⌝ }
+    ensures { λ r. ⌜ r ≡ verdict (readCauses (now (packet .entry))) ⌝ }
 {
     judge(packet, !permitted(room::word_at(packet, Words(0))))
 }
@@ -100,40 +100,40 @@ fn words_of(packet: &[u16]) -> [u16; 29]
 
 // A packet taken apart.
 pub fn read_packet(packet: &[u16]) -> Packet
-    ensures { λ r. ⌜ r ≡ readPacket (now (packet .entry)) ⌝ }
+    ensures { λ r. ⌜ r ≡ readReply (now (packet .entry)) ⌝ }
 {
     let verdict = read_verdict(packet);
     if verdict != 0 {
         return Packet {
             refusal: verdict,
-            kind: 0,
+            packet_type: 0,
             time: 0,
             words: [0; 29],
         };
     }
     Packet {
         refusal: 0,
-        kind: room::word_at(packet, Words(0)),
+        packet_type: room::word_at(packet, Words(0)),
         time: room::word_at(packet, Words(2)),
         words: words_of(packet),
     }
 }
 
 // The CRC of a packet of this type, time and words.
-fn crc_of(kind: u16, time: u16, words: &[u16]) -> u16
-    ensures { λ r. ⌜ r ≡ writtenCrc kind time (now (words .entry)) ⌝ }
+fn crc_of(packet_type: u16, time: u16, words: &[u16]) -> u16
+    ensures { λ r. ⌜ r ≡ writtenCrc «packet_type» time (now (words .entry)) ⌝ }
 {
-    crc::words(crc::words(crc::START, &[kind, time]), words)
+    crc::words(crc::words(crc::START, &[packet_type, time]), words)
 }
 
 // The writer's reply.
-fn plan(kind: u16, words: usize, room: usize) -> Written
-    ensures { λ r. ⌜ r ≡ writeReply kind words room ⌝ }
+fn plan(packet_type: u16, words: usize, room: usize) -> Written
+    ensures { λ r. ⌜ r ≡ writeReply «packet_type» words room ⌝ }
 {
     refusal::settle(
         refusal::cause(
             refusal::ARGUMENT,
-            !writable(kind),
+            !writable(packet_type),
             refusal::cause(
                 refusal::LENGTH,
                 words != 29,
@@ -145,15 +145,15 @@ fn plan(kind: u16, words: usize, room: usize) -> Written
 }
 
 // A packet of this type, time and 29 words into lent room.
-pub fn write_packet(kind: u16, time: u16, words: &[u16], room: &mut [u16]) -> Written
-    ensures { λ r. ⌜ r ≡ writeReply kind (length (now (words .entry))) (length (now (room .entry))) ⌝ }
-    ensures { λ _. ⌜ now (room .exit) ≡ roomAfter kind time (now (words .entry)) (now (room .entry)) ⌝ }
+pub fn write_packet(packet_type: u16, time: u16, words: &[u16], room: &mut [u16]) -> Written
+    ensures { λ r. ⌜ r ≡ writeReply «packet_type» (length (now (words .entry))) (length (now (room .entry))) ⌝ }
+    ensures { λ _. ⌜ now (room .exit) ≡ writeRoom «packet_type» time (now (words .entry)) (now (room .entry)) ⌝ }
 {
-    let reply = plan(kind, words.len(), room.len());
+    let reply = plan(packet_type, words.len(), room.len());
     if reply.refusal != 0 {
         return reply;
     }
-    let head = [kind, crc_of(kind, time, words), time];
+    let head = [packet_type, crc_of(packet_type, time, words), time];
     room::put_words(&head, room, Words(0));
     room::put_words(words, room, Words(3));
     reply

@@ -1,4 +1,4 @@
--- What a verdict of 0 tells of a packet that a field reader was given. Assumes nothing.
+-- What a verdict of 0 tells of a packet that a field reader was given.
 use mathlib.Core.Path.{_≡_}
 use mathlib.Core.Bool.{not, _&&_}
 use mathlib.Core.List.{List}
@@ -12,13 +12,13 @@ use Rattle.base.specs.Refusal.{verdict}
 use Rattle.health.specs.Packet.{packetType}
 use Rattle.health.proofs.Sound.{judged-long, judged-own}
 use Rattle.health_fields.specs.Observation.{flagsKnown, regionKnown, isObservation, observationCauses}
-use Rattle.health_fields.specs.Checksums.{checksumCauses}
-use Rattle.health_fields.specs.Upsets.{lastFilled, isUpsets, upsetCauses}
+use Rattle.health_fields.specs.Checksums.{checksumsCauses}
+use Rattle.health_fields.specs.Upsets.{lastFilled, isUpsets, upsetsCauses}
 
-pub checksums-long : (p : List ℕ) {v : ℕ} → v ≡ verdict (checksumCauses p) → v ≡ 0 → length p ≡ 32
+pub checksums-long : (p : List ℕ) {v : ℕ} → v ≡ verdict (checksumsCauses p) → v ≡ 0 → length p ≡ 32
 checksums-long p e z = judged-long (not (eqb (packetType p) 8)) p e z
 
-pub upsets-last : (p : List ℕ) {v : ℕ} → v ≡ verdict (upsetCauses p) → v ≡ 0 → lastFilled p ≤ 8
+pub upsets-last : (p : List ℕ) {v : ℕ} → v ≡ verdict (upsetsCauses p) → v ≡ 0 → lastFilled p ≤ 8
 upsets-last p e z = leb-true (lastFilled p) 8 (and-right (eqb (packetType p) 10) (leb (lastFilled p) 8) (judged-own (isUpsets p) p e z))
 
 pub observation-judged : (p : List ℕ) {v : ℕ} → v ≡ verdict (observationCauses p) → v ≡ 0 → (length p ≡ 32) × (3 ≤ packetType p)

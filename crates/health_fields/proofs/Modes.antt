@@ -1,4 +1,4 @@
--- Every value of the mode byte means one mode, and the answer is that one. Assumes nothing.
+-- Every value of the mode byte means one mode, and the answer is that one.
 use mathlib.Core.Path.{_≡_, refl, ap}
 use mathlib.Core.Bool.{Bool, true, false, cond}
 use Prim.Native.Nat.{ℕ, zero, suc, _≤_, zero-le, suc-le-suc}

@@ -1,4 +1,4 @@
--- An observation is the record of the words that were read. Assumes nothing.
+-- An observation is the record of the words that were read.
 use mathlib.Core.Path.{_≡_}
 use mathlib.Core.List.{List}
 use Prim.Native.Nat.{ℕ, _-_, _/_, _%_}
@@ -9,10 +9,10 @@ use Rattle.health_fields.specs.Observation.{highByte, bitSet, modeOf, ob
 
 -- the record of these words
 abbrev recorded : ℕ → ℕ → ℕ → ℕ → ℕ → Mode → ℕ → ℕ → ℕ → List ℕ → List ℕ → Observed
-recorded kind crc time frame times mode word flags map others bins =
+recorded t crc time frame times mode word flags map others bins =
     record {
       refusal = 0;
-      camera = kind - 3;
+      camera = t - 3;
       crc = crc;
       time = time;
       frame = frame;
@@ -20,18 +20,18 @@ recorded kind crc time frame times mode word flags map others bins =
       exposure = times % 256;
       mode = mode;
       «mode_word» = word;
-      «rice_en» = bitSet 15 flags;
-      «rice_dt» = bitSet 14 flags;
-      «flat_en» = bitSet 13 flags;
-      «ff_led_en» = bitSet 12 flags;
-      «st_asap» = bitSet 11 flags;
+      «rice_en» = bitSet flags 15;
+      «rice_dt» = bitSet flags 14;
+      «flat_en» = bitSet flags 13;
+      «ff_led_en» = bitSet flags 12;
+      «st_asap» = bitSet flags 11;
       region = map / 4096;
       others = others;
       bins = bins;
     }
 
-pub as-read : (p : List ℕ) {kind crc time frame times word flags map : ℕ} {mode : Mode} {others bins : List ℕ}
-    → kind ≡ getD p 0 0 → crc ≡ getD p 1 0 → time ≡ getD p 2 0 → frame ≡ getD p 3 0 → times ≡ getD p 4 0 → word ≡ getD p 5 0
+pub as-read : (p : List ℕ) {t crc time frame times word flags map : ℕ} {mode : Mode} {others bins : List ℕ}
+    → t ≡ getD p 0 0 → crc ≡ getD p 1 0 → time ≡ getD p 2 0 → frame ≡ getD p 3 0 → times ≡ getD p 4 0 → word ≡ getD p 5 0
     → flags ≡ getD p 6 0 → map ≡ getD p 7 0 → mode ≡ modeOf (highByte word) → others ≡ take 8 (drop 8 p) → bins ≡ drop 16 p
-    → recorded kind crc time frame times mode word flags map others bins ≡ observationOf p
+    → recorded t crc time frame times mode word flags map others bins ≡ observationOf p
 as-read p a b c d e f g h i j k = simp (a, b, c, d, e, f, g, h, i, j, k)

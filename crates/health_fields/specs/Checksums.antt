@@ -6,15 +6,15 @@ use lib.ListN.{take, drop, replicate}
 use lib.Dec.{eqb}
 use Rattle.base.specs.Refusal.{Causes, verdict, answer}
 use Rattle.health.specs.Packet.{packetType}
-use Rattle.health.specs.Reading.{readerCauses}
+use Rattle.health.specs.Reading.{judgeCauses}
 
-abbrev pub checksumCauses : List ℕ → Causes
-checksumCauses p = readerCauses (not (eqb (packetType p) 8)) p
+abbrev pub checksumsCauses : List ℕ → Causes
+checksumsCauses p = judgeCauses p (not (eqb (packetType p) 8))
 
 -- the eight pages of a camera, from 0: words 3 to 26 are three times eight
 abbrev pub pagesOf : List ℕ → ℕ → List ℕ
 pagesOf p camera = take 8 (drop (3 + 8 * camera) p)
 
 -- a row for each camera; zeros on a refusal
-unfoldable pub readChecksums : List ℕ → List (List ℕ)
-readChecksums p = answer (verdict (checksumCauses p)) (λ v. replicate 3 (replicate 8 0)) (pagesOf p 0 ∷ pagesOf p 1 ∷ pagesOf p 2 ∷ [])
+unfoldable pub checksumsReply : List ℕ → List (List ℕ)
+checksumsReply p = answer (verdict (checksumsCauses p)) (λ v. replicate 3 (replicate 8 0)) (pagesOf p 0 ∷ pagesOf p 1 ∷ pagesOf p 2 ∷ [])

@@ -9,8 +9,8 @@ use Rattle.crc.specs.Crc.{crcBit, crcStep}
 use Rattle.health.specs.Packet.{packetCrc}
 use Rattle.health.specs.Writing.{packetFrom, writtenCrc}
 use Rattle.health_fields.specs.Observation.{observationCauses}
-use Rattle.health_fields.specs.Checksums.{checksumCauses}
-use Rattle.health_fields.specs.Upsets.{oldestFirst, upsetCauses}
+use Rattle.health_fields.specs.Checksums.{checksumsCauses}
+use Rattle.health_fields.specs.Upsets.{oldestFirst, upsetsCauses}
 
 -- document 01, example 9: last entry 8, and the oldest is entry 0
 oldest : getD (oldestFirst 8) 0 0 ≡ 0
@@ -20,19 +20,19 @@ oldest = refl
 upsetsWith : ℕ → List ℕ
 upsetsWith w = packetFrom 10 0 (0 ∷ w ∷ replicate 27 0)
 
-example-9-eight : verdict (upsetCauses (upsetsWith 8)) ≡ 0
+example-9-eight : verdict (upsetsCauses (upsetsWith 8)) ≡ 0
 unfolding packetCrc writtenCrc crcBit crcStep upsetsWith
 example-9-eight = refl
 
 -- example 9: last entry 9 is refused by 7
-example-9-nine : verdict (upsetCauses (upsetsWith 9)) ≡ unspecified
+example-9-nine : verdict (upsetsCauses (upsetsWith 9)) ≡ unspecified
 unfolding packetCrc writtenCrc crcBit crcStep upsetsWith
 example-9-nine = refl
 
 -- the high byte of word 4 is spare
-spare : verdict (upsetCauses (upsetsWith 0xAB08)) ≡ 0
+spare : verdict (upsetsCauses (upsetsWith 0xAB08)) ≡ 0
 unfolding packetCrc writtenCrc crcBit crcStep upsetsWith
 spare = refl
 
-order : (p : List ℕ) → (followsPaper (observationCauses p) ≡ true) × (followsPaper (checksumCauses p) ≡ true) × (followsPaper (upsetCauses p) ≡ true)
+order : (p : List ℕ) → (followsPaper (observationCauses p) ≡ true) × (followsPaper (checksumsCauses p) ≡ true) × (followsPaper (upsetsCauses p) ≡ true)
 order p = (refl, refl, refl)

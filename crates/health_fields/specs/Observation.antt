@@ -9,7 +9,7 @@ use Rattle.health_fields.specs.declared.observed.Mode.{Mode}
 use Rattle.health_fields.specs.declared.observed.Mode.the-variants.{Engineering, HighResolution, Normal, NoAcquisition, Disabled}
 use Rattle.health_fields.specs.declared.observed.Observed.{Observed}
 use Rattle.health.specs.Packet.{packetType, packetTime}
-use Rattle.health.specs.Reading.{readerCauses}
+use Rattle.health.specs.Reading.{judgeCauses}
 
 abbrev pub highByte : ℕ → ℕ
 highByte w = w / 256
@@ -19,7 +19,7 @@ lowByte w = w % 256
 
 -- bit k is set; bit 15 is the most significant
 abbrev pub bitSet : ℕ → ℕ → Bool
-bitSet k w = eqb (w / 2 ^ k % 2) 1
+bitSet w k = eqb (w / 2 ^ k % 2) 1
 
 -- The number of each mode. Disabled has every other value: 4 is the least of them.
 abbrev pub modeNumber : Mode → ℕ
@@ -54,7 +54,7 @@ unfoldable pub isObservation : ℕ → ℕ → ℕ → Bool
 isObservation t six seven = leb 4 t && leb t 6 && flagsKnown six && regionKnown seven
 
 abbrev pub observationCauses : List ℕ → Causes
-observationCauses p = readerCauses (not (isObservation (packetType p) (getD p 6 0) (getD p 7 0))) p
+observationCauses p = judgeCauses p (not (isObservation (packetType p) (getD p 6 0) (getD p 7 0)))
 
 -- zeros beside the number; the mode of number 0
 abbrev pub noObservation : ℕ → Observed
@@ -92,15 +92,15 @@ observationOf p =
       exposure = lowByte (getD p 4 0);
       mode = modeOf (highByte (getD p 5 0));
       «mode_word» = getD p 5 0;
-      «rice_en» = bitSet 15 (getD p 6 0);
-      «rice_dt» = bitSet 14 (getD p 6 0);
-      «flat_en» = bitSet 13 (getD p 6 0);
-      «ff_led_en» = bitSet 12 (getD p 6 0);
-      «st_asap» = bitSet 11 (getD p 6 0);
+      «rice_en» = bitSet (getD p 6 0) 15;
+      «rice_dt» = bitSet (getD p 6 0) 14;
+      «flat_en» = bitSet (getD p 6 0) 13;
+      «ff_led_en» = bitSet (getD p 6 0) 12;
+      «st_asap» = bitSet (getD p 6 0) 11;
       region = getD p 7 0 / 2 ^ 12;
       others = take 8 (drop 8 p);
       bins = drop 16 p;
     }
 
-unfoldable pub readObservation : List ℕ → Observed
-readObservation p = answer (verdict (observationCauses p)) noObservation (observationOf p)
+unfoldable pub observationReply : List ℕ → Observed
+observationReply p = answer (verdict (observationCauses p)) noObservation (observationOf p)

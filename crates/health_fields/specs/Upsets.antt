@@ -8,7 +8,7 @@ use Rattle.base.specs.Refusal.{Causes, verdict, answer}
 use Rattle.health_fields.specs.declared.upset.Upset.{Upset}
 use Rattle.health_fields.specs.declared.upset.UpsetTable.{UpsetTable}
 use Rattle.health.specs.Packet.{packetType}
-use Rattle.health.specs.Reading.{readerCauses}
+use Rattle.health.specs.Reading.{judgeCauses}
 
 -- word 4's low byte; its high byte is spare and not looked at
 abbrev pub lastFilled : List ℕ → ℕ
@@ -18,8 +18,8 @@ lastFilled p = getD p 4 0 % 256
 abbrev pub isUpsets : List ℕ → Bool
 isUpsets p = eqb (packetType p) 10 && leb (lastFilled p) 8
 
-abbrev pub upsetCauses : List ℕ → Causes
-upsetCauses p = readerCauses (not (isUpsets p)) p
+abbrev pub upsetsCauses : List ℕ → Causes
+upsetsCauses p = judgeCauses p (not (isUpsets p))
 
 abbrev pub upset : ℕ → ℕ → ℕ → Upset
 upset a t v = record { address = a; time = t; value = v }
@@ -36,7 +36,7 @@ abbrev pub upsetTable : ℕ → ℕ → ℕ → List Upset → UpsetTable
 upsetTable v n last es = record { refusal = v; total = n; last = last; entries = es }
 
 -- the total, the last entry filled and the nine entries, oldest first
-unfoldable pub readUpsets : List ℕ → UpsetTable
-readUpsets p =
-    answer (verdict (upsetCauses p)) (λ v. upsetTable v 0 0 (replicate 9 (upset 0 0 0)))
+unfoldable pub upsetsReply : List ℕ → UpsetTable
+upsetsReply p =
+    answer (verdict (upsetsCauses p)) (λ v. upsetTable v 0 0 (replicate 9 (upset 0 0 0)))
     (upsetTable 0 (getD p 3 0) (lastFilled p) (map (upsetAt p) (oldestFirst (lastFilled p))))

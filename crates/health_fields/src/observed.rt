@@ -7,7 +7,7 @@ ghost use mathlib.Core.Path.{_≡_};
 ghost use Prim.Native.Nat.{_≤_};
 ghost use lib.ListN.{length, getD};
 ghost use Rattle.base.specs.Refusal.{verdict};
-ghost use Rattle.health_fields.specs.Observation.{modeOf, isObservation, observationCauses, noObservation, observationOf, readObservation};
+ghost use Rattle.health_fields.specs.Observation.{modeOf, isObservation, observationCauses, noObservation, observationOf, observationReply};
 
 // What a camera does, by the mode byte.
 pub enum Mode {
@@ -52,10 +52,13 @@ fn mode_of(byte: u16) -> Mode
 }
 
 // By the type and words 6 and 7.
-fn is_observation(kind: u16, flags: u16, map: u16) -> bool
-    ensures { λ r. ⌜ r ≡ isObservation kind flags map ⌝ }
+fn is_observation(packet_type: u16, flags: u16, map: u16) -> bool
+    ensures { λ r. ⌜ r ≡ isObservation «packet_type» flags map ⌝ }
 {
-    (4 <= kind) & (kind <= 6) & (flags % 2048 == 0) & ((map / 4096 <= 4) & (map % 4096 == 0))
+    (4 <= packet_type)
+        & (packet_type <= 6)
+        & (flags % 2048 == 0)
+        & ((map / 4096 <= 4) & (map % 4096 == 0))
 }
 
 fn observation_verdict(packet: &[u16]) -> u8
@@ -123,7 +126,7 @@ fn observation_fields(packet: &[u16]) -> Observed
 
 // The fields of an observation of camera 1, 2 or 3.
 pub fn observation(packet: &[u16]) -> Observed
-    ensures { λ r. ⌜ r ≡ readObservation (now (packet .entry)) ⌝ }
+    ensures { λ r. ⌜ r ≡ observationReply (now (packet .entry)) ⌝ }
 {
     let verdict = observation_verdict(packet);
     if verdict != 0 {

@@ -6,7 +6,7 @@ ghost use mathlib.Core.Path.{_≡_};
 ghost use mathlib.Core.List.{map};
 ghost use Prim.Native.Nat.{_+_, _%_, _≤_};
 ghost use Rattle.base.specs.Refusal.{verdict};
-ghost use Rattle.health_fields.specs.Upsets.{lastFilled, upsetCauses, upsetAt, oldestFirst, readUpsets};
+ghost use Rattle.health_fields.specs.Upsets.{lastFilled, upsetsCauses, upsetAt, oldestFirst, upsetsReply};
 
 // One single event upset.
 pub struct Upset {
@@ -31,11 +31,11 @@ fn last_filled(packet: &[u16]) -> u16
 }
 
 fn upset_verdict(packet: &[u16]) -> u8
-    ensures { λ r. ⌜ r ≡ verdict (upsetCauses (now (packet .entry))) ⌝ }
+    ensures { λ r. ⌜ r ≡ verdict (upsetsCauses (now (packet .entry))) ⌝ }
 {
-    let kind = room::word_at(packet, Words(0));
+    let packet_type = room::word_at(packet, Words(0));
     let last = last_filled(packet);
-    packet::judge(packet, !((kind == 10) & (last <= 8)))
+    packet::judge(packet, !((packet_type == 10) & (last <= 8)))
 }
 
 // The entry that stands `k` after the oldest.
@@ -70,7 +70,7 @@ fn oldest_first(packet: &[u16], last: u16) -> [Upset; 9]
 
 // The fields of an upset packet.
 pub fn upsets(packet: &[u16]) -> UpsetTable
-    ensures { λ r. ⌜ r ≡ readUpsets (now (packet .entry)) ⌝ }
+    ensures { λ r. ⌜ r ≡ upsetsReply (now (packet .entry)) ⌝ }
 {
     let verdict = upset_verdict(packet);
     if verdict != 0 {

@@ -1,5 +1,5 @@
 -- What is shown is a sound packet of the asked type, and no later one is: the place that is found holds one, and none of the places after it.
--- Places rise along a row of packets and along a reading, so "after" is by place. Assumes nothing.
+-- Places rise along a row of packets and along a reading, so "after" is by place.
 use mathlib.Core.Path.{_≡_, refl, ap, _∙_}
 use mathlib.Core.Bool.{Bool, true, false, cond}
 use mathlib.Core.List.{List, [], _∷_, _++_, List·Memᴰ, List·Memᴰ·cases-cons, List·Memᴰ·not-nil}
@@ -18,7 +18,7 @@ use Rattle.health_last.specs.declared.Place.{Place}
 use Rattle.health_last.specs.declared.Sought.{Sought}
 use Rattle.health_last.specs.declared.Sought.the-variants.{At, Nowhere}
 use Rattle.health_last.specs.Packets.{packetPlaces, chunkPlaces, placesOf, sciencePlaces, healthPlaces, soundOf, later, lastWhere}
-use Rattle.health_last.specs.Last.{lastPlace}
+use Rattle.health_last.specs.Last.{lastPlaceReply}
 use Rattle.health_last.proofs.Placed.{last-holds, sound-parts, of-science, of-health}
 
 -- ---- places that rise
@@ -130,16 +130,16 @@ none-later f lo hi (x ∷ ps) r p e q m h =
 pub record LastOf (t : ℕ) (ws : List ℕ) (places : List ℕ) (p : ℕ) : Type 0 where
   pub sound : soundPacket (take 32 (drop p ws)) ≡ true
   pub type : packetType (take 32 (drop p ws)) ≡ t
-  pub latest : (q : ℕ) → List·Memᴰ q places → p < q → soundOf t ws q ≡ false
+  pub latest : (q : ℕ) → List·Memᴰ q places → p < q → soundOf ws t q ≡ false
 
-last-of : (t : ℕ) (ws places : List ℕ) (hi : ℕ) → Rising 0 hi places → (p : Words) → lastWhere (soundOf t ws) places ≡ At p → LastOf t ws places (p .0)
+last-of : (t : ℕ) (ws places : List ℕ) (hi : ℕ) → Rising 0 hi places → (p : Words) → lastWhere (soundOf ws t) places ≡ At p → LastOf t ws places (p .0)
 last-of t ws places hi r p e =
-    let k = sound-parts t ws (p .0) (last-holds (soundOf t ws) places p e) in
-    record { sound = k .1; type = k .0; latest = none-later (soundOf t ws) 0 hi places r p e }
+    let k = sound-parts t ws (p .0) (last-holds (soundOf ws t) places p e) in
+    record { sound = k .1; type = k .0; latest = none-later (soundOf ws t) 0 hi places r p e }
 
 module _ (sync : ℕ) (science : List ℕ) (t : ℕ) (health : List ℕ) where
   abbrev reply : Place
-  reply = lastPlace sync science t health
+  reply = lastPlaceReply sync science health t
 
   -- shown of the science recording: the last in its listed health chunks
   pub science-last : reply .recording ≡ 1 → LastOf t science (sciencePlaces sync science) (reply .at .0)
@@ -147,7 +147,7 @@ module _ (sync : ℕ) (science : List ℕ) (t : ℕ) (health : List ℕ) where
 
   -- shown of the health recording: the last there, and no packet of the science recording's listed health chunks is sound and of the type
   pub health-last : reply .recording ≡ 2
-      → LastOf t health (healthPlaces health) (reply .at .0) × ((q : ℕ) → List·Memᴰ q (sciencePlaces sync science) → soundOf t science q ≡ false)
+      → LastOf t health (healthPlaces health) (reply .at .0) × ((q : ℕ) → List·Memᴰ q (sciencePlaces sync science) → soundOf science t q ≡ false)
   health-last h =
       let k = of-health sync science t health refl h in
-      (last-of t health (healthPlaces health) (length health) (health-rises health) (reply .at) (k .1), none-holds (soundOf t science) (sciencePlaces sync science) (k .0))
+      (last-of t health (healthPlaces health) (length health) (health-rises health) (reply .at) (k .1), none-holds (soundOf science t) (sciencePlaces sync science) (k .0))

@@ -1,4 +1,4 @@
--- The answer about the last packet: which of its causes holds, and that a place that is shown has 32 words. Assumes nothing.
+-- The answer about the last packet: which of its causes holds, and that a place that is shown has 32 words.
 use mathlib.Core.Path.{_≡_, refl, sym, ap, ap₂, _∙_}
 use mathlib.Core.Bool.{Bool, true, false, cond}
 use mathlib.Core.List.{List, [], _∷_, _++_}
@@ -17,7 +17,7 @@ use Rattle.health_last.specs.declared.Place.{Place}
 use Rattle.health_last.specs.declared.Sought.{Sought}
 use Rattle.health_last.specs.declared.Sought.the-variants.{At, Nowhere}
 use Rattle.health_last.specs.Packets.{sciencePlaces, healthPlaces, soundOf, later, lastWhere}
-use Rattle.health_last.specs.Last.{inScience, inHealth, place, shown, argumentCauses, lastCauses, lastPlace, partAt, lastPacket}
+use Rattle.health_last.specs.Last.{inScience, inHealth, place, shown, argumentCauses, lastCauses, lastPlaceReply, partAt, lastPacketReply}
 
 -- ---- the place that is found passes the test
 
@@ -32,14 +32,14 @@ last-holds f (q ∷ ps) p e = by-cases (last-holds f ps p) (lastWhere f ps) refl
     by-cases further Nowhere es true eb e = let z : record { 0 = q } ≡ p = cc in ap (λ (w : Words). f (w .0)) (sym z) ∙ eb
     by-cases further Nowhere es false eb e = let z : _≡_ {A = ℕ} 0 1 = cc in absurd (omega arith)
 
-pub sound-parts : (t : ℕ) (ws : List ℕ) (p : ℕ) → soundOf t ws p ≡ true → (packetType (take 32 (drop p ws)) ≡ t) × (soundPacket (take 32 (drop p ws)) ≡ true)
+pub sound-parts : (t : ℕ) (ws : List ℕ) (p : ℕ) → soundOf ws t p ≡ true → (packetType (take 32 (drop p ws)) ≡ t) × (soundPacket (take 32 (drop p ws)) ≡ true)
 unfolding soundOf
 sound-parts t ws p e =
     let q = take 32 (drop p ws) in
     (eqb-true _ _ (and-left (eqb (packetType q) t) (soundPacket q) e), and-right (eqb (packetType q) t) (soundPacket q) e)
 
 -- a sound packet has its 32 words
-sound-within : (t : ℕ) (ws : List ℕ) (p : ℕ) → soundOf t ws p ≡ true → p + 32 ≤ length ws
+sound-within : (t : ℕ) (ws : List ℕ) (p : ℕ) → soundOf ws t p ≡ true → p + 32 ≤ length ws
 sound-within t ws p e =
     let n = sound-long (take 32 (drop p ws)) (sound-parts t ws p e .1) in
     omega (arith, n, length-take 32 (drop p ws), length-drop p ws)
@@ -57,18 +57,18 @@ late [] ds k e = refl
 late ((n, true) ∷ cs) ds k e = let z = spared ((n, true) ∷ cs) k e .0 in let o : _≡_ {A = ℕ} 0 1 = cc in absurd (omega arith)
 late ((n, false) ∷ cs) ds k e = late cs ds (and-right (ltb 0 n) (numbered cs) k) e
 
-module _ (sync : ℕ) (science : List ℕ) (t : ℕ) (health : List ℕ) {v : ℕ} (e : v ≡ verdict (argumentCauses t (length science) (length health))) where
+module _ (sync : ℕ) (science : List ℕ) (t : ℕ) (health : List ℕ) {v : ℕ} (e : v ≡ verdict (argumentCauses (length science) (length health) t)) where
   abbrev found : Place
   found = shown (inScience sync science t) (inHealth health t)
 
   abbrev arguments : Causes
-  arguments = argumentCauses t (length science) (length health)
+  arguments = argumentCauses (length science) (length health) t
 
   abbrev neither : Causes
   neither = (nothingThere, eqb (found .recording) 0) ∷ []
 
-  pub stopped : (v ≡ 0 → ⊥) → place v 0 0 ≡ lastPlace sync science t health
-  unfolding lastPlace
+  pub stopped : (v ≡ 0 → ⊥) → place v 0 0 ≡ lastPlaceReply sync science health t
+  unfolding lastPlaceReply
   stopped h =
       let k = early arguments neither (λ z. h (e ∙ z)) in
       ap (λ (n : ℕ). place n 0 0) (e ∙ sym k) ∙ sym (answer-no _ _ found (λ z. h (e ∙ sym k ∙ z)))
@@ -77,19 +77,19 @@ module _ (sync : ℕ) (science : List ℕ) (t : ℕ) (health : List ℕ) {v : �
     es : s ≡ found
     es = ec ∙ ap₂ shown ea eb
 
-    last-verdict : (b : Bool) → eqb (s .recording) 0 ≡ b → verdict (lastCauses sync science t health) ≡ cond b 2 0
+    last-verdict : (b : Bool) → eqb (s .recording) 0 ≡ b → verdict (lastCauses sync science health t) ≡ cond b 2 0
     last-verdict b eb =
         late arguments neither refl (sym e ∙ z)
         ∙ ap (λ (x : Bool). cond x 2 0) (sym (ap (λ (x : Place). eqb (x .recording) 0) es) ∙ eb)
 
-    pub none : s .recording ≡ 0 → place 2 0 0 ≡ lastPlace sync science t health
-    unfolding lastPlace
+    pub none : s .recording ≡ 0 → place 2 0 0 ≡ lastPlaceReply sync science health t
+    unfolding lastPlaceReply
     none h =
         let k = last-verdict true (eq-eqb _ _ h) in
         ap (λ (n : ℕ). place n 0 0) (sym k) ∙ sym (answer-no _ _ found (λ q. absurd (omega (arith, sym k ∙ q))))
 
-    pub there : (s .recording ≡ 0 → ⊥) → s ≡ lastPlace sync science t health
-    unfolding lastPlace
+    pub there : (s .recording ≡ 0 → ⊥) → s ≡ lastPlaceReply sync science health t
+    unfolding lastPlaceReply
     there h = es ∙ sym (answer-yes _ _ found (last-verdict false (ne-eqb _ _ h)))
 
 -- ---- the part that is shown
@@ -104,12 +104,12 @@ pick-health (At p) b e = absurd (omega arith)
 pick-health Nowhere (At p) e = (refl, refl)
 pick-health Nowhere Nowhere e = absurd (omega arith)
 
-module _ (sync : ℕ) (science : List ℕ) (t : ℕ) (health : List ℕ) {s : Place} (e : s ≡ lastPlace sync science t health) where
+module _ (sync : ℕ) (science : List ℕ) (t : ℕ) (health : List ℕ) {s : Place} (e : s ≡ lastPlaceReply sync science health t) where
   as-shown : (s .recording ≡ 0 → ⊥) → s ≡ shown (inScience sync science t) (inHealth health t)
-  unfolding lastPlace
-  as-shown h = by-cases (eqb (verdict (lastCauses sync science t health)) 0) refl
+  unfolding lastPlaceReply
+  as-shown h = by-cases (eqb (verdict (lastCauses sync science health t)) 0) refl
     where
-      by-cases : (b : Bool) → eqb (verdict (lastCauses sync science t health)) 0 ≡ b → s ≡ shown (inScience sync science t) (inHealth health t)
+      by-cases : (b : Bool) → eqb (verdict (lastCauses sync science health t)) 0 ≡ b → s ≡ shown (inScience sync science t) (inHealth health t)
       by-cases true eb = e ∙ answer-yes _ _ _ (eqb-true _ _ eb)
       by-cases false eb = absurd (h (ap (λ (x : Place). x .recording) (e ∙ answer-no _ _ _ (eqb-false _ _ eb))))
 
@@ -127,19 +127,19 @@ module _ (sync : ℕ) (science : List ℕ) (t : ℕ) (health : List ℕ) {s : Pl
       (q .0, q .1 ∙ ap (λ (x : Place). At (x .at)) (sym k))
 
   pub science-within : s .recording ≡ 1 → s .at .0 + 32 ≤ length science
-  science-within h = sound-within t science (s .at .0) (last-holds (soundOf t science) (sciencePlaces sync science) (s .at) (of-science h))
+  science-within h = sound-within t science (s .at .0) (last-holds (soundOf science t) (sciencePlaces sync science) (s .at) (of-science h))
 
   pub health-within : s .recording ≡ 2 → s .at .0 + 32 ≤ length health
-  health-within h = sound-within t health (s .at .0) (last-holds (soundOf t health) (healthPlaces health) (s .at) (of-health h .1))
+  health-within h = sound-within t health (s .at .0) (last-holds (soundOf health t) (healthPlaces health) (s .at) (of-health h .1))
 
-  pub science-part : s .recording ≡ 1 → take 32 (drop (s .at .0) science) ≡ lastPacket sync science t health
+  pub science-part : s .recording ≡ 1 → take 32 (drop (s .at .0) science) ≡ lastPacketReply sync science health t
   unfolding partAt
   science-part h = simp (eq-eqb _ _ h) at (ap (λ (x : Place). partAt x science health) e)
 
-  pub health-part : s .recording ≡ 2 → take 32 (drop (s .at .0) health) ≡ lastPacket sync science t health
+  pub health-part : s .recording ≡ 2 → take 32 (drop (s .at .0) health) ≡ lastPacketReply sync science health t
   unfolding partAt
   health-part h = simp (eq-eqb _ _ h, ne-eqb (s .recording) 1 (λ z. omega (arith, h, z))) at (ap (λ (x : Place). partAt x science health) e)
 
-  pub no-part : (s .recording ≡ 1 → ⊥) → (s .recording ≡ 2 → ⊥) → [] ≡ lastPacket sync science t health
+  pub no-part : (s .recording ≡ 1 → ⊥) → (s .recording ≡ 2 → ⊥) → [] ≡ lastPacketReply sync science health t
   unfolding partAt
   no-part h k = simp (ne-eqb _ _ h, ne-eqb _ _ k) at (ap (λ (x : Place). partAt x science health) e)

@@ -1,4 +1,4 @@
--- The search for the last place where a test holds: from the back of a row of packets, and chunk by chunk of a reading. Assumes nothing.
+-- The search for the last place where a test holds: from the back of a row of packets, and chunk by chunk of a reading.
 use mathlib.Core.Path.{_≡_, refl, sym, ap, _∙_}
 use mathlib.Core.Bool.{Bool, true, false, cond}
 use mathlib.Core.List.{List, [], _∷_, _++_}
@@ -36,11 +36,11 @@ type-at : (ws : List ℕ) (p : ℕ) → packetType (take 32 (drop p ws)) ≡ get
 type-at ws p = getD-take 32 (drop p ws) 0 0 (lit< tt) ∙ getD-drop p ws 0 0 ∙ ap (λ (n : ℕ). getD ws n 0) (add-zero p)
 
 module _ (t : ℕ) (ws : List ℕ) (p : ℕ) where
-  pub other-type : (getD ws p 0 ≡ t → ⊥) → soundOf t ws p ≡ false
+  pub other-type : (getD ws p 0 ≡ t → ⊥) → soundOf ws t p ≡ false
   unfolding soundOf
   other-type h = simp (ne-eqb _ t (λ e. h (sym (type-at ws p) ∙ e)))
 
-  pub own-type : getD ws p 0 ≡ t → soundOf t ws p ≡ soundPacket (take 32 (drop p ws))
+  pub own-type : getD ws p 0 ≡ t → soundOf ws t p ≡ soundPacket (take 32 (drop p ws))
   unfolding soundOf
   own-type h = simp (eq-eqb _ t (type-at ws p ∙ h))
 
@@ -103,18 +103,18 @@ module _ (e : Entry) where
 -- what is left of the reading at a place, after what was found before it, gives the answer
 pub record Sifted (sync t : ℕ) (ws : List ℕ) (at : ℕ) (last : Sought) : Type 0 where
   pub within : at ≤ length ws
-  pub is : later (lastWhere (soundOf t ws) (placesOf (listed sync at 0 (drop at ws)))) last ≡ inScience sync ws t
+  pub is : later (lastWhere (soundOf ws t) (placesOf (listed sync at 0 (drop at ws)))) last ≡ inScience sync ws t
 
 module _ (sync t : ℕ) (ws : List ℕ) where
   pub start : Sifted sync t ws 0 Nowhere
   start = record { within = omega arith; is = later-none (inScience sync ws t) }
 
   pub turn : {at : ℕ} {last : Sought} → Sifted sync t ws at last → {e : Entry} → Next sync ws at e
-      → {found now : Sought} {to : ℕ} → found ≡ lastWhere (soundOf t ws) (chunkPlaces e) → now ≡ later found last → to ≡ past e
+      → {found now : Sought} {to : ℕ} → found ≡ lastWhere (soundOf ws t) (chunkPlaces e) → now ≡ later found last → to ≡ past e
       → Sifted sync t ws to now
   unfolding placesOf
   turn {at} {last} s {e} n {found} {now} {to} ef en et =
-      let f = soundOf t ws in
+      let f = soundOf ws t in
       let rest : Sought = lastWhere f (placesOf (listed sync (past e) 0 (drop (past e) ws))) in
       let all : lastWhere f (placesOf (listed sync at 0 (drop at ws))) ≡ later rest (lastWhere f (chunkPlaces e)) =
       ap (λ (es : List Entry). lastWhere f (placesOf es)) (n .lists)
@@ -132,4 +132,4 @@ module _ (sync t : ℕ) (ws : List ℕ) where
 
   pub done : {at : ℕ} {last : Sought} → Sifted sync t ws at last → Last sync ws at → last ≡ inScience sync ws t
   unfolding placesOf lastWhere
-  done {at} {last} s n = ap (λ (es : List Entry). later (lastWhere (soundOf t ws) (placesOf es)) last) (sym (n .lists)) ∙ s .is
+  done {at} {last} s n = ap (λ (es : List Entry). later (lastWhere (soundOf ws t) (placesOf es)) last) (sym (n .lists)) ∙ s .is

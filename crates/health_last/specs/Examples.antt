@@ -12,7 +12,7 @@ use Rattle.health.specs.Packet.{packetCrc, soundPacket}
 use Rattle.health.specs.Writing.{writtenCrc, packetFrom}
 use Rattle.health_last.specs.declared.Place.{Place}
 use Rattle.health_last.specs.Packets.{packetPlaces, chunkPlaces, placesOf, soundOf, lastWhere}
-use Rattle.health_last.specs.Last.{place, lastCauses, lastPlace}
+use Rattle.health_last.specs.Last.{place, lastCauses, lastPlaceReply}
 
 -- a packet of this type
 packet : ℕ → List ℕ
@@ -20,22 +20,22 @@ packet t = packetFrom t 0 (replicate 29 0)
 
 -- what is answered about type 4
 asked : List ℕ → List ℕ → Place
-asked science health = lastPlace 0x5AF3 science 4 health
+asked science health = lastPlaceReply 0x5AF3 science health 4
 
 -- in both: the science recording's is shown
 both : asked (0x5AF3 ∷ 0x8020 ∷ packet 4) (packet 4 ++ packet 4) ≡ place 0 1 2
-unfolding asked packet lastPlace answer lastWhere packetPlaces chunkPlaces placesOf soundOf soundPacket packetCrc writtenCrc crcBit crcStep listed confirmed headed ends legal legalSize
+unfolding asked packet lastPlaceReply answer lastWhere packetPlaces chunkPlaces placesOf soundOf soundPacket packetCrc writtenCrc crcBit crcStep listed confirmed headed ends legal legalSize
 both = refl
 
 -- the science recording's packet is of another type, and so is the second in the health recording
 other : asked (0x5AF3 ∷ 0x8020 ∷ packet 5) (packet 4 ++ packet 5) ≡ place 0 2 0
-unfolding asked packet lastPlace answer lastWhere packetPlaces chunkPlaces placesOf soundOf soundPacket packetCrc writtenCrc crcBit crcStep listed confirmed headed ends legal legalSize
+unfolding asked packet lastPlaceReply answer lastWhere packetPlaces chunkPlaces placesOf soundOf soundPacket packetCrc writtenCrc crcBit crcStep listed confirmed headed ends legal legalSize
 other = refl
 
 -- a packet in no listed health chunk does not count; the last of two is at place 32
 unlisted : (asked (packet 4) [] ≡ place 2 0 0) × (asked (packet 4) (packet 4 ++ packet 4) ≡ place 0 2 32)
-unfolding asked packet lastPlace answer lastWhere packetPlaces chunkPlaces placesOf soundOf soundPacket packetCrc writtenCrc crcBit crcStep listed confirmed headed ends legal legalSize
+unfolding asked packet lastPlaceReply answer lastWhere packetPlaces chunkPlaces placesOf soundOf soundPacket packetCrc writtenCrc crcBit crcStep listed confirmed headed ends legal legalSize
 unlisted = (refl, refl)
 
-order : (sync : ℕ) (science : List ℕ) (t : ℕ) (health : List ℕ) → followsPaper (lastCauses sync science t health) ≡ true
+order : (sync : ℕ) (science : List ℕ) (t : ℕ) (health : List ℕ) → followsPaper (lastCauses sync science health t) ≡ true
 order sync science t health = refl

@@ -12,10 +12,10 @@ use Rattle.health_last.specs.declared.Place.{Place}
 use Rattle.health_last.specs.Packets.{sciencePlaces, healthPlaces, soundOf, lastWhere}
 
 abbrev pub inScience : ℕ → List ℕ → ℕ → Sought
-inScience sync science t = lastWhere (soundOf t science) (sciencePlaces sync science)
+inScience sync science t = lastWhere (soundOf science t) (sciencePlaces sync science)
 
 abbrev pub inHealth : List ℕ → ℕ → Sought
-inHealth health t = lastWhere (soundOf t health) (healthPlaces health)
+inHealth health t = lastWhere (soundOf health t) (healthPlaces health)
 
 abbrev pub place : ℕ → ℕ → ℕ → Place
 place v recording at = record { refusal = v; recording = recording; at = record { 0 = at } }
@@ -36,22 +36,22 @@ healthLength n = eqb (n % 32) 0 && leb n healthLimit
 
 -- a type that cannot be asked for; either recording too long, or the health recording no packets back to back
 abbrev pub argumentCauses : ℕ → ℕ → ℕ → Causes
-argumentCauses t n m = (wrongArgument, not (askedType t)) ∷ (wrongLength, ltb recordingLimit n || not (healthLength m)) ∷ []
+argumentCauses n m t = (wrongArgument, not (askedType t)) ∷ (wrongLength, ltb recordingLimit n || not (healthLength m)) ∷ []
 
 -- these, and last that neither recording has one
-abbrev pub lastCauses : ℕ → List ℕ → ℕ → List ℕ → Causes
-lastCauses sync science t health =
-    argumentCauses t (length science) (length health) ++ (nothingThere, eqb (shown (inScience sync science t) (inHealth health t) .recording) 0) ∷ []
+abbrev pub lastCauses : ℕ → List ℕ → List ℕ → ℕ → Causes
+lastCauses sync science health t =
+    argumentCauses (length science) (length health) t ++ (nothingThere, eqb (shown (inScience sync science t) (inHealth health t) .recording) 0) ∷ []
 
 -- which recording the packet is shown of, and its place there
-unfoldable pub lastPlace : ℕ → List ℕ → ℕ → List ℕ → Place
-lastPlace sync science t health =
-    answer (verdict (lastCauses sync science t health)) (λ v. place v 0 0) (shown (inScience sync science t) (inHealth health t))
+unfoldable pub lastPlaceReply : ℕ → List ℕ → List ℕ → ℕ → Place
+lastPlaceReply sync science health t =
+    answer (verdict (lastCauses sync science health t)) (λ v. place v 0 0) (shown (inScience sync science t) (inHealth health t))
 
 -- the 32 words at a place of one of the two; no words where nothing is shown
 unfoldable pub partAt : Place → List ℕ → List ℕ → List ℕ
 partAt s science health =
     cond (eqb (s .recording) 1) (take 32 (drop (s .at .0) science)) (cond (eqb (s .recording) 2) (take 32 (drop (s .at .0) health)) [])
 
-abbrev pub lastPacket : ℕ → List ℕ → ℕ → List ℕ → List ℕ
-lastPacket sync science t health = partAt (lastPlace sync science t health) science health
+abbrev pub lastPacketReply : ℕ → List ℕ → List ℕ → ℕ → List ℕ
+lastPacketReply sync science health t = partAt (lastPlaceReply sync science health t) science health

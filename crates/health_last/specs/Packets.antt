@@ -34,8 +34,8 @@ abbrev pub healthPlaces : List ℕ → List ℕ
 healthPlaces ws = packetPlaces (length ws / 32) 0
 
 -- a sound packet of the type t stands at the place p
-unfoldable pub soundOf : ℕ → List ℕ → ℕ → Bool
-soundOf t ws p = eqb (packetType (take 32 (drop p ws))) t && soundPacket (take 32 (drop p ws))
+unfoldable pub soundOf : List ℕ → ℕ → ℕ → Bool
+soundOf ws t p = eqb (packetType (take 32 (drop p ws))) t && soundPacket (take 32 (drop p ws))
 
 -- the later of two, where it is there
 abbrev pub later : Sought → Sought → Sought

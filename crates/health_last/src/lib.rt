@@ -9,7 +9,7 @@ ghost use mathlib.Core.Path.{_≡_};
 ghost use Prim.Native.Nat.{_+_, _≤_};
 ghost use lib.ListN.{length, take, drop};
 ghost use Rattle.base.specs.Refusal.{verdict};
-ghost use Rattle.health_last.specs.Last.{argumentCauses, place, shown, lastPlace, lastPacket};
+ghost use Rattle.health_last.specs.Last.{argumentCauses, place, shown, lastPlaceReply, lastPacketReply};
 
 // The place of a packet that was looked for.
 pub enum Sought {
@@ -25,10 +25,10 @@ pub struct Place {
 }
 
 // What the arguments alone refuse.
-fn judge(kind: u16, science: usize, health: usize) -> u8
-    ensures { λ r. ⌜ r ≡ verdict (argumentCauses kind science health) ⌝ }
+fn judge(science: usize, health: usize, packet_type: u16) -> u8
+    ensures { λ r. ⌜ r ≡ verdict (argumentCauses science health «packet_type») ⌝ }
 {
-    let asked = (1 <= kind) & (kind <= 15);
+    let asked = (1 <= packet_type) & (packet_type <= 15);
     let packets = (health % packet::SIZE == 0) & (health <= limit::HEALTH_RECORDING);
     refusal::cause(
         refusal::ARGUMENT,
@@ -69,15 +69,15 @@ fn refused(number: u8) -> Place
 }
 
 // Where the last sound packet of a type stands: the second call beside `last_packet`, and its number.
-pub fn last_place(science: &[u16], sync: u16, health: &[u16], kind: u16) -> Place
-    ensures { λ r. ⌜ r ≡ lastPlace sync (now (science .entry)) kind (now (health .entry)) ⌝ }
+pub fn last_place(science: &[u16], sync: u16, health: &[u16], packet_type: u16) -> Place
+    ensures { λ r. ⌜ r ≡ lastPlaceReply sync (now (science .entry)) (now (health .entry)) «packet_type» ⌝ }
 {
-    let verdict = judge(kind, science.len(), health.len());
+    let verdict = judge(science.len(), health.len(), packet_type);
     if verdict != 0 {
         return refused(verdict);
     }
-    let in_science = seek::in_science(science, sync, kind);
-    let in_health = seek::in_row(health, kind, 0, health.len() / packet::SIZE);
+    let in_science = seek::in_science(science, sync, packet_type);
+    let in_health = seek::in_row(health, packet_type, 0, health.len() / packet::SIZE);
     let place = choose(in_science, in_health);
     if place.recording == 0 {
         return refused(refusal::NOTHING_THERE);
@@ -95,10 +95,15 @@ fn packet_at(words: &[u16], from: usize) -> &[u16]
 }
 
 // The last sound packet of a type, as a part of the recording that it stands in; empty where `last_place` refuses.
-pub fn last_packet<'a>(science: &'a [u16], sync: u16, health: &'a [u16], kind: u16) -> &'a [u16]
-    ensures { λ r. ⌜ now r ≡ lastPacket sync (now (science .entry)) kind (now (health .entry)) ⌝ }
+pub fn last_packet<'a>(
+    science: &'a [u16],
+    sync: u16,
+    health: &'a [u16],
+    packet_type: u16,
+) -> &'a [u16]
+    ensures { λ r. ⌜ now r ≡ lastPacketReply sync (now (science .entry)) (now (health .entry)) «packet_type» ⌝ }
 {
-    let place = last_place(science, sync, health, kind);
+    let place = last_place(science, sync, health, packet_type);
     if place.recording == 1 {
         return packet_at(science, place.at.0);
     }

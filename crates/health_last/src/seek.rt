@@ -15,25 +15,25 @@ ghost use Rattle.health_last.specs.Packets.{packetPlaces, chunkPlaces, s
 ghost use Rattle.health_last.specs.Last.{inScience};
 
 // Whether a sound packet of the type stands at a place. The CRC is computed only where the type is the asked one.
-fn is_of(words: &[u16], kind: u16, at: usize) -> bool
-    ensures { λ r. ⌜ r ≡ soundOf kind (now (words .entry)) at ⌝ }
+fn is_of(words: &[u16], packet_type: u16, at: usize) -> bool
+    ensures { λ r. ⌜ r ≡ soundOf (now (words .entry)) «packet_type» at ⌝ }
 {
-    if room::word_at(words, Words(at)) != kind {
+    if room::word_at(words, Words(at)) != packet_type {
         return false;
     }
     packet::sound_at(words, Words(at))
 }
 
 // The last sound packet of the type among `count` packets back to back, from the back.
-pub fn in_row(words: &[u16], kind: u16, from: usize, count: usize) -> Sought
+pub fn in_row(words: &[u16], packet_type: u16, from: usize, count: usize) -> Sought
     requires { ⌜ from + 32 * count ≤ length (now words) ⌝ }
-    ensures { λ r. ⌜ r ≡ lastWhere (soundOf kind (now (words .entry))) (packetPlaces count from) ⌝ }
+    ensures { λ r. ⌜ r ≡ lastWhere (soundOf (now (words .entry)) «packet_type») (packetPlaces count from) ⌝ }
 {
     let mut left = count;
     while 0 < left {
         left -= 1;
         let at = from + packet::SIZE * left;
-        if is_of(words, kind, at) {
+        if is_of(words, packet_type, at) {
             return Sought::At(Words(at));
         }
     }
@@ -41,16 +41,16 @@ pub fn in_row(words: &[u16], kind: u16, from: usize, count: usize) -> Sought
 }
 
 // The last sound packet of the type in a chunk.
-fn in_chunk(words: &[u16], kind: u16, position: usize, header: u16) -> Sought
+fn in_chunk(words: &[u16], packet_type: u16, position: usize, header: u16) -> Sought
     requires { ⌜ position + span header ≤ length (now words) ⌝ }
-    ensures { λ r. ⌜ r ≡ lastWhere (soundOf kind (now (words .entry))) (chunkPlaces (entry position header)) ⌝ }
+    ensures { λ r. ⌜ r ≡ lastWhere (soundOf (now (words .entry)) «packet_type») (chunkPlaces (entry position header)) ⌝ }
 {
     if header::kind_of(header) != 1 {
         return Sought::Nowhere;
     }
     in_row(
         words,
-        kind,
+        packet_type,
         position + header::HEADER,
         header::size_of(header).0 / packet::SIZE,
     )
@@ -66,8 +66,8 @@ fn latest(found: Sought, before: Sought) -> Sought
 }
 
 // The last sound packet of the type in the listed health chunks.
-pub fn in_science(words: &[u16], sync: u16, kind: u16) -> Sought
-    ensures { λ r. ⌜ r ≡ inScience sync (now (words .entry)) kind ⌝ }
+pub fn in_science(words: &[u16], sync: u16, packet_type: u16) -> Sought
+    ensures { λ r. ⌜ r ≡ inScience sync (now (words .entry)) «packet_type» ⌝ }
 {
     let mut last = Sought::Nowhere;
     let mut at: usize = 0;
@@ -78,7 +78,7 @@ pub fn in_science(words: &[u16], sync: u16, kind: u16) -> Sought
         };
         let begins = entry.position.0;
         let header = entry.header;
-        last = latest(in_chunk(words, kind, begins, header), last);
+        last = latest(in_chunk(words, packet_type, begins, header), last);
         at = begins + header::HEADER + header::size_of(header).0;
     }
 }

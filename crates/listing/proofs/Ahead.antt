@@ -41,26 +41,26 @@ frame-on sync ws p e n s =
     (omega (arith, n .ahead, ap listedWords (frame-is sync (drop q ws) s)), omega (arith, n .within, ends sync (drop q ws) s, length-drop q ws))
 
 module _ (sync : ℕ) (ws : List ℕ) where
-  ahead-from : (k p : ℕ) → length ws ≤ p + k → Ahead ws p (nextPiece sync p ws)
+  ahead-from : (k p : ℕ) → length ws ≤ p + k → Ahead ws p (nextPiece sync ws p)
   ahead-from zero p h = subst (Ahead ws p) (sym (none sync ws p (found-end sync ws p (omega arith)))) tt
-  ahead-from (suc k) p h = by-found (ahead-from k) (nextFrom sync p ws) refl
+  ahead-from (suc k) p h = by-found (ahead-from k) (nextFrom sync ws p) refl
     where
-      by-found : ((q : ℕ) → length ws ≤ q + k → Ahead ws q (nextPiece sync q ws)) → (f : Found) → nextFrom sync p ws ≡ f → Ahead ws p (nextPiece sync p ws)
+      by-found : ((q : ℕ) → length ws ≤ q + k → Ahead ws q (nextPiece sync ws q)) → (f : Found) → nextFrom sync ws p ≡ f → Ahead ws p (nextPiece sync ws p)
       by-found more Found.End f = subst (Ahead ws p) (sym (none sync ws p f)) tt
       by-found more (Found.Chunk e) f = by-kind (eqb (kind (e .header)) 0) refl
         where
           n : Next sync ws p e
           n = stepped sync ws p e f
 
-          by-start : kind (e .header) ≡ 0 → (b : Bool) → starts (e .header) ≡ b → Ahead ws p (nextPiece sync p ws)
+          by-start : kind (e .header) ≡ 0 → (b : Bool) → starts (e .header) ≡ b → Ahead ws p (nextPiece sync ws p)
           by-start z true s = subst (Ahead ws p) (sym (framed sync ws p e n z s)) (frame-on sync ws p e n (frame-starts sync ws p e n s))
           by-start z false s = subst (Ahead ws p) (sym (strayed sync ws p e n z s)) (omega (arith, n .ahead), n .within)
 
-          by-kind : (b : Bool) → eqb (kind (e .header)) 0 ≡ b → Ahead ws p (nextPiece sync p ws)
+          by-kind : (b : Bool) → eqb (kind (e .header)) 0 ≡ b → Ahead ws p (nextPiece sync ws p)
           by-kind true z = by-start (eqb-true (kind (e .header)) 0 z) (starts (e .header)) refl
           by-kind false z =
               subst (Ahead ws p) (sym (passed sync ws p e n (eqb-false (kind (e .header)) 0 z)))
-              (sooner ws p (past e) (omega (arith, n .ahead)) (nextPiece sync (past e) ws) (more (past e) (omega (arith, n .ahead))))
+              (sooner ws p (past e) (omega (arith, n .ahead)) (nextPiece sync ws (past e)) (more (past e) (omega (arith, n .ahead))))
 
-  pub ahead : (p : ℕ) (x : Piece) → x ≡ nextPiece sync p ws → Ahead ws p x
+  pub ahead : (p : ℕ) (x : Piece) → x ≡ nextPiece sync ws p → Ahead ws p x
   ahead p x e = subst (Ahead ws p) (sym e) (ahead-from (length ws) p (omega arith))

@@ -4,9 +4,9 @@ use libc::STDIN_FILENO;
 ghost use Rattle.io.specs.Counts.{Counts};
 
 // room for the longest input, and one byte more by which a longer one shows
-pub const ROOM: usize = listing_input::MOST + 1;
+pub const ROOM: usize = program_input::MOST + 1;
 
-pub const WORDS: usize = listing_input::MOST / 2;
+pub const WORDS: usize = program_input::MOST / 2;
 
 // How many bytes came, or that reading failed.
 pub struct Taken {

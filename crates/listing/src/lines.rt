@@ -113,6 +113,6 @@ pub fn frames_and_strays(words: &[u16], sync: u16) -> bool {
 }
 
 pub fn runs(words: &[u16], sync: u16) -> bool {
-    let outline = outline::outline(words, sync);
+    let outline = chunk_outline::outline(words, sync);
     text(b"runs ") & number(outline.image) & text(b" ") & number(outline.health) & text(b"\n")
 }

@@ -21,7 +21,7 @@ fn list(words: &[u16]) -> bool
 // The answer to an input; false where it could not be written.
 fn answer(bytes: &[u8]) -> bool {
     let mut words = [0u16; input::WORDS];
-    let reply = listing_input::words(bytes, &mut words);
+    let reply = program_input::words(bytes, &mut words);
     if reply.refusal != 0 {
         return lines::refused(reply.refusal);
     }

@@ -50,17 +50,17 @@ abbrev pub hit : ℕ → ℕ → ℕ → ℕ → Bool
 hit i b w n = eqb i (w + n / 16) && eqb b (15 - n % 16)
 
 module _ (u : List ℕ) (i b : ℕ) (h : i < length u) where
-  flip-word : (j : ℕ) → getD (flipped i b u) j 0 ≡ getD u j 0 ⊕ cond (eqb i j) (2 ^ b) 0
+  flip-word : (j : ℕ) → getD (flipped u i b) j 0 ≡ getD u j 0 ⊕ cond (eqb i j) (2 ^ b) 0
   unfolding flipped
   flip-word j = by-test (eqb i j) refl
     where
-      by-test : (t : Bool) → eqb i j ≡ t → getD (flipped i b u) j 0 ≡ getD u j 0 ⊕ cond t (2 ^ b) 0
+      by-test : (t : Bool) → eqb i j ≡ t → getD (flipped u i b) j 0 ≡ getD u j 0 ⊕ cond t (2 ^ b) 0
       by-test true e =
-          ap (λ (n : ℕ). getD (flipped i b u) n 0) (sym (eqb-true i j e)) ∙ getD-set-same u i (getD u i 0 ⊕ 2 ^ b) 0 h
+          ap (λ (n : ℕ). getD (flipped u i b) n 0) (sym (eqb-true i j e)) ∙ getD-set-same u i (getD u i 0 ⊕ 2 ^ b) 0 h
           ∙ ap (λ (n : ℕ). getD u n 0 ⊕ 2 ^ b) (eqb-true i j e)
       by-test false e = getD-set-other u i j (getD u i 0 ⊕ 2 ^ b) 0 (λ z. eqb-false i j e (sym z)) ∙ sym (xor-zero-r (getD u j 0))
 
-  flip-bit : (j q : ℕ) → bitOf (getD (flipped i b u) j 0) q ≡ bitOf (getD u j 0) q ⊕ one (eqb i j && eqb b q)
+  flip-bit : (j q : ℕ) → bitOf (getD (flipped u i b) j 0) q ≡ bitOf (getD u j 0) q ⊕ one (eqb i j && eqb b q)
   unfolding bitOf
   flip-bit j q =
       ap (λ (x : ℕ). bitOf x q) (flip-word j) ∙ bit-linear q (getD u j 0) (cond (eqb i j) (2 ^ b) 0) ∙ ap (λ (x : ℕ). bitOf (getD u j 0) q ⊕ x) (there (eqb i j))
@@ -69,7 +69,7 @@ module _ (u : List ℕ) (i b : ℕ) (h : i < length u) where
       there true = power-bit b q
       there false = ap (λ (x : ℕ). x % 2) (zero-div (2 ^ q))
 
-  flip-from : (w n : ℕ) → bitFrom (flipped i b u) w n ≡ bitFrom u w n ⊕ one (hit i b w n)
+  flip-from : (w n : ℕ) → bitFrom (flipped u i b) w n ≡ bitFrom u w n ⊕ one (hit i b w n)
   unfolding bitFrom
   flip-from w n = flip-bit (w + n / 16) (15 - n % 16)
 
@@ -87,11 +87,11 @@ abbrev pub columnFlip : ℕ → ℕ → ℕ → ℕ
 columnFlip i b c = one (hit i b 4 c) ⊕ xorAll 64 (λ r. one (hit i b (8 + 4 * r) c))
 
 module _ (u : List ℕ) (i b : ℕ) (h : i < length u) where
-  flip-data : (w n : ℕ) → bitFrom (drop 8 (flipped i b u)) w n ≡ bitFrom (drop 8 u) w n ⊕ one (hit i b (8 + w) n)
+  flip-data : (w n : ℕ) → bitFrom (drop 8 (flipped u i b)) w n ≡ bitFrom (drop 8 u) w n ⊕ one (hit i b (8 + w) n)
   flip-data w n =
-      from-drop 8 (flipped i b u) w n ∙ flip-from u i b h (8 + w) n ∙ ap (λ (x : ℕ). x ⊕ one (hit i b (8 + w) n)) (sym (from-drop 8 u w n))
+      from-drop 8 (flipped u i b) w n ∙ flip-from u i b h (8 + w) n ∙ ap (λ (x : ℕ). x ⊕ one (hit i b (8 + w) n)) (sym (from-drop 8 u w n))
 
-  pub flip-row : (r : ℕ) → rowDiffers (flipped i b u) r ≡ rowDiffers u r ⊕ rowFlip i b r
+  pub flip-row : (r : ℕ) → rowDiffers (flipped u i b) r ≡ rowDiffers u r ⊕ rowFlip i b r
   unfolding rowDiffers rowParity
   flip-row r =
       let f : ℕ → ℕ = bitFrom (drop 8 u) (4 * r) in
@@ -99,7 +99,7 @@ module _ (u : List ℕ) (i b : ℕ) (h : i < length u) where
       ap₂ _⊕_ (flip-from u i b h 0 r) (xor-cong 64 (λ c _. flip-data (4 * r) c) ∙ xor-add 64 f g)
       ∙ xor-swap (bitFrom u 0 r) (one (hit i b 0 r)) (xorAll 64 f) (xorAll 64 g)
 
-  pub flip-column : (c : ℕ) → columnDiffers (flipped i b u) c ≡ columnDiffers u c ⊕ columnFlip i b c
+  pub flip-column : (c : ℕ) → columnDiffers (flipped u i b) c ≡ columnDiffers u c ⊕ columnFlip i b c
   unfolding columnDiffers columnParity
   flip-column c =
       let f : ℕ → ℕ = λ r. bitFrom (drop 8 u) (4 * r) c in

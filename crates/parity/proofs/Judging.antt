@@ -13,7 +13,7 @@ use Rattle.base.proofs.Refused.{answer-no, answer-yes}
 use Rattle.base.specs.Refusal.{answer, wrongLength, wrongParity, noRoom}
 use Rattle.parity.specs.declared.Judged.{Judged}
 use Rattle.parity.specs.declared.rows.Sums.{Sums}
-use Rattle.parity.specs.Unit.{Finding, sound, parityBit, dataBit, neither, fiveCases, finding, isNeither, named, refused, notUnit, unitRefusal, judged, checkRefusal, checked}
+use Rattle.parity.specs.Unit.{Finding, sound, parityBit, dataBit, neither, fiveCases, finding, isNeither, named, refused, notUnit, judgeVerdict, judgeReply, checkVerdict, checkReply}
 use Rattle.parity.specs.Sums.{differences, answerOf}
 use Rattle.parity.proofs.Cases.{found}
 
@@ -28,12 +28,12 @@ between a b n e = by-tests (leb a n) (leb n b) refl refl e
 
 -- ---- the judge
 
-pub wrong-length : (u : List ℕ) → notUnit (length u) ≡ true → refused wrongLength ≡ judged u
-unfolding judged unitRefusal answer
+pub wrong-length : (u : List ℕ) → notUnit (length u) ≡ true → refused wrongLength ≡ judgeReply u
+unfolding judgeReply judgeVerdict answer
 wrong-length u h = simp h
 
-pub judgement : (u : List ℕ) → notUnit (length u) ≡ false → answerOf (finding u) (length u - 8) ≡ judged u
-unfolding judged unitRefusal answer
+pub judgement : (u : List ℕ) → notUnit (length u) ≡ false → answerOf (finding u) (length u - 8) ≡ judgeReply u
+unfolding judgeReply judgeVerdict answer
 judgement u h = simp h (by-finding (finding u))
   where
     by-finding : (f : Finding) → answerOf f (length u - 8) ≡ answer (cond (isNeither f) wrongParity 0) refused (named f (length u - 8))
@@ -45,7 +45,7 @@ judgement u h = simp h (by-finding (finding u))
 -- from the differences
 pub judged-by : (u : List ℕ) (d : Sums) (r : Judged) → notUnit (length u) ≡ false → d ≡ differences u
     → r ≡ answerOf (fiveCases (ones (d .rows)) (ones (d .columns)) (leadingZeros 64 (d .rows)) (leadingZeros 64 (d .columns)) (length u - 8)) (length u - 8)
-    → r ≡ judged u
+    → r ≡ judgeReply u
 judged-by u d r h p e = e ∙ ap (λ (f : Finding). answerOf f (length u - 8)) (found u d p) ∙ judgement u h
 
 -- ---- the number in a reply
@@ -70,13 +70,13 @@ number-in v f k = by-test (eqb v 0) refl
     by-test true e = named-refusal f k ∙ sym (eqb-true v 0 e)
     by-test false e = refl
 
-pub judged-refusal : (u : List ℕ) → judged u .refusal ≡ unitRefusal u
-unfolding judged
-judged-refusal u = number-in (unitRefusal u) (finding u) (length u - 8)
+pub judged-refusal : (u : List ℕ) → judgeReply u .refusal ≡ judgeVerdict u
+unfolding judgeReply
+judged-refusal u = number-in (judgeVerdict u) (finding u) (length u - 8)
 
-pub checked-refusal : (u : List ℕ) (m : ℕ) → checked u m .refusal ≡ checkRefusal u m
-unfolding checked
-checked-refusal u m = number-in (checkRefusal u m) (finding u) (length u - 8)
+pub checked-refusal : (u : List ℕ) (m : ℕ) → checkReply u m .refusal ≡ checkVerdict u m
+unfolding checkReply
+checked-refusal u m = number-in (checkVerdict u m) (finding u) (length u - 8)
 
 -- ---- the checker's reply, from the judge's
 
@@ -96,35 +96,35 @@ room-cause false false true h e = refl
 room-cause false false false h e = let z : _≡_ {A = ℕ} 0 1 = cc in absurd (omega arith)
 
 module _ (u : List ℕ) (m : ℕ) where
-  judged-checked : (unitRefusal u ≡ 0 → ⊥) ⊎ (length u - 8 ≤ m) → judged u ≡ checked u m
-  unfolding judged checked unitRefusal checkRefusal
+  judged-checked : (judgeVerdict u ≡ 0 → ⊥) ⊎ (length u - 8 ≤ m) → judgeReply u ≡ checkReply u m
+  unfolding judgeReply checkReply judgeVerdict checkVerdict
   judged-checked h =
       ap (λ (v : ℕ). answer v refused (named (finding u) (length u - 8)))
       (last-cause (notUnit (length u)) (isNeither (finding u)) (ltb m (length u - 8)) (⊎-elim inl (λ x. inr (le-ltb m (length u - 8) x)) h))
 
-  judged-length : unitRefusal u ≡ 0 → judged u .length .0 ≡ length u - 8
-  unfolding judged
-  judged-length z = ap (λ (s : Judged). s .length .0) (answer-yes (unitRefusal u) refused (named (finding u) (length u - 8)) z) ∙ named-length (finding u) (length u - 8)
+  judged-length : judgeVerdict u ≡ 0 → judgeReply u .length .0 ≡ length u - 8
+  unfolding judgeReply
+  judged-length z = ap (λ (s : Judged). s .length .0) (answer-yes (judgeVerdict u) refused (named (finding u) (length u - 8)) z) ∙ named-length (finding u) (length u - 8)
 
-  refused-room : unitRefusal u ≡ 0 → m < length u - 8 → refused noRoom ≡ checked u m
-  unfolding checked unitRefusal checkRefusal
+  refused-room : judgeVerdict u ≡ 0 → m < length u - 8 → refused noRoom ≡ checkReply u m
+  unfolding checkReply judgeVerdict checkVerdict
   refused-room z h =
       let x = named (finding u) (length u - 8) in
       let v = room-cause (notUnit (length u)) (isNeither (finding u)) (ltb m (length u - 8)) z (lt-ltb m (length u - 8) h) in
       sym (ap (λ (n : ℕ). answer n refused x) v ∙ answer-no noRoom refused x (λ y. omega (arith, y)))
 
-  module _ (r : Judged) (e : r ≡ judged u) where
-    number : r .refusal ≡ unitRefusal u
+  module _ (r : Judged) (e : r ≡ judgeReply u) where
+    number : r .refusal ≡ judgeVerdict u
     number = ap (λ (s : Judged). s .refusal) e ∙ judged-refusal u
 
     long : r .refusal ≡ 0 → r .length .0 ≡ length u - 8
     long z = ap (λ (s : Judged). s .length .0) e ∙ judged-length (sym number ∙ z)
 
-    pub as-judged : (r .refusal ≡ 0 → ⊥) → r ≡ checked u m
+    pub as-judged : (r .refusal ≡ 0 → ⊥) → r ≡ checkReply u m
     as-judged h = e ∙ judged-checked (inl (λ z. h (number ∙ z)))
 
-    pub no-room : r .refusal ≡ 0 → m < r .length .0 → refused noRoom ≡ checked u m
+    pub no-room : r .refusal ≡ 0 → m < r .length .0 → refused noRoom ≡ checkReply u m
     no-room z h = refused-room (sym number ∙ z) (omega (arith, long z))
 
-    pub room-enough : r .refusal ≡ 0 → r .length .0 ≤ m → r ≡ checked u m
+    pub room-enough : r .refusal ≡ 0 → r .length .0 ≤ m → r ≡ checkReply u m
     room-enough z h = e ∙ judged-checked (inr (omega (arith, long z)))

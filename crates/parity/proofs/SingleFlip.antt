@@ -13,7 +13,7 @@ use borrow.Author.Tests.{eq-eqb, ne-eqb, eqb-true, le-leb, lt-ltb, ltb-true, ltb
 use Rattle.base.specs.Xor.{_⊕_}
 use Rattle.base.proofs.XorLaws.{xor-assoc}
 use Rattle.parity.specs.Parity.{xorAll}
-use Rattle.parity.specs.Unit.{unitOf, flipped, rowDiffers, columnDiffers, sumAll, firstOf, Finding, sound, parityBit, dataBit, neither, fiveCases, finding, repaired, unitData, reply, judged}
+use Rattle.parity.specs.Unit.{unitOf, flipped, rowDiffers, columnDiffers, sumAll, firstOf, Finding, sound, parityBit, dataBit, neither, fiveCases, finding, repaired, unitData, reply, judgeReply}
 use Rattle.parity.specs.Sums.{answerOf}
 use Rattle.parity.proofs.Folds.{xor-cong, xor-none}
 use Rattle.parity.proofs.Judging.{judgement}
@@ -135,11 +135,11 @@ module _ (k x y p : ℕ) (h : p < 64) where
       ∙ ap₂ (λ (a b : ℕ). fiveCases 1 1 a b k) (first-spot 64 r q) (first-spot 64 p h)
       ∙ ap (λ (t : Bool). cond t (dataBit (4 * r + p / 16) (15 - p % 16)) neither) (lt-ltb (4 * r + p / 16) k below)
 
-flip-length : (i b : ℕ) (u : List ℕ) → length (flipped i b u) ≡ length u
+flip-length : (i b : ℕ) (u : List ℕ) → length (flipped u i b) ≡ length u
 unfolding flipped
 flip-length i b u = length-set u i (getD u i 0 ⊕ 2 ^ b)
 
-flip-twice : (w b : ℕ) (d : List ℕ) → w < length d → flipped w b (flipped w b d) ≡ d
+flip-twice : (w b : ℕ) (d : List ℕ) → w < length d → flipped (flipped d w b) w b ≡ d
 unfolding flipped
 flip-twice w b d h =
     let x = getD d w 0 in
@@ -150,7 +150,7 @@ flip-twice w b d h =
 
 module _ (d : List ℕ) (some : 1 ≤ length d) (most : length d ≤ 256) where
   -- a unit of the right length is judged by what is found of it
-  judged-as : (u : List ℕ) (f : Finding) → length u ≡ 8 + length d → finding u ≡ f → judged u ≡ answerOf f (length d)
+  judged-as : (u : List ℕ) (f : Finding) → length u ≡ 8 + length d → finding u ≡ f → judgeReply u ≡ answerOf f (length d)
   judged-as u f n e =
       let k : length u - 8 ≡ length d = omega arith in
       sym (judgement u (ap₂ (λ (s t : Bool). not (s && t)) (le-leb 9 (length u) (omega arith)) (le-leb (length u) 264 (omega arith))))
@@ -162,7 +162,7 @@ module _ (d : List ℕ) (some : 1 ≤ length d) (most : length d ≤ 256) where
   unfolding none
   sound-found = found-as (unitOf d) none none (no-row d) (no-column d) ∙ case-0 (length (unitOf d) - 8) _ _ 0 (omega arith)
 
-  pub written-judged : judged (unitOf d) ≡ reply 0 0 0 0 (length d)
+  pub written-judged : judgeReply (unitOf d) ≡ reply 0 0 0 0 (length d)
   written-judged = judged-as (unitOf d) sound (unit-length d) sound-found
 
   pub written-data : unitData (unitOf d) ≡ d
@@ -173,7 +173,7 @@ module _ (d : List ℕ) (some : 1 ≤ length d) (most : length d ≤ 256) where
 
   module _ (i b : ℕ) (hi : i < length (unitOf d)) where
     abbrev hurt : List ℕ
-    hurt = flipped i b (unitOf d)
+    hurt = flipped (unitOf d) i b
 
     rows-as : (f : ℕ → ℕ) → ((r : ℕ) → r < 64 → rowFlip i b r ≡ f r) → (r : ℕ) → r < 64 → rowDiffers hurt r ≡ f r
     rows-as f e r h = flip-row (unitOf d) i b hi r ∙ ap (λ (x : ℕ). x ⊕ rowFlip i b r) (no-row d r h) ∙ xor-zero-l (rowFlip i b r) ∙ e r h
@@ -196,11 +196,11 @@ module _ (d : List ℕ) (some : 1 ≤ length d) (most : length d ≤ 256) where
     named-right : (j c : ℕ) → j ≡ w → c ≡ b → parityBit j c ≡ parityBit w b
     named-right j c p q = cc
 
-    parity-found : finding (flipped w b (unitOf d)) ≡ parityBit w b
+    parity-found : finding (flipped (unitOf d) w b) ≡ parityBit w b
     unfolding none
     parity-found = by-half (ltb w 4) refl
       where
-        by-half : (t : Bool) → ltb w 4 ≡ t → finding (flipped w b (unitOf d)) ≡ parityBit w b
+        by-half : (t : Bool) → ltb w 4 ≡ t → finding (flipped (unitOf d) w b) ≡ parityBit w b
         by-half true e =
             let h : w < 4 = ltb-true w 4 e in
             let p = 16 * (w - 0) + (15 - b) in
@@ -212,20 +212,20 @@ module _ (d : List ℕ) (some : 1 ≤ length d) (most : length d ≤ 256) where
             hurt-as w b in-unit none (spot p) (column-hit-row w b hw hb h) (column-hit w b hw hb h) ∙ case-column _ _ 0 p (omega arith)
             ∙ named-right (4 + p / 16) (15 - p % 16) (omega arith) (omega arith)
 
-    pub parity-bit-judged : judged (flipped w b (unitOf d)) ≡ reply 0 1 w b (length d)
-    parity-bit-judged = judged-as (flipped w b (unitOf d)) (parityBit w b) (hurt-length w b in-unit) parity-found
+    pub parity-bit-judged : judgeReply (flipped (unitOf d) w b) ≡ reply 0 1 w b (length d)
+    parity-bit-judged = judged-as (flipped (unitOf d) w b) (parityBit w b) (hurt-length w b in-unit) parity-found
 
-    pub parity-bit-data : unitData (flipped w b (unitOf d)) ≡ d
+    pub parity-bit-data : unitData (flipped (unitOf d) w b) ≡ d
     unfolding unitData flipped
     parity-bit-data =
-        ap (λ (f : Finding). repaired f (drop 8 (flipped w b (unitOf d)))) parity-found ∙ drop-set-lt 8 (unitOf d) w (getD (unitOf d) w 0 ⊕ 2 ^ b) hw ∙ unit-data d
+        ap (λ (f : Finding). repaired f (drop 8 (flipped (unitOf d) w b))) parity-found ∙ drop-set-lt 8 (unitOf d) w (getD (unitOf d) w 0 ⊕ 2 ^ b) hw ∙ unit-data d
 
   -- a bit of data word w
   module _ (w b : ℕ) (hw : w < length d) (hb : b < 16) where
     in-data : 8 + w < length (unitOf d)
     in-data = omega (arith, unit-length d)
 
-    data-found : finding (flipped (8 + w) b (unitOf d)) ≡ dataBit w b
+    data-found : finding (flipped (unitOf d) (8 + w) b) ≡ dataBit w b
     data-found =
         let p = 16 * (w % 4) + (15 - b) in
         let j : 4 * (w / 4) + p / 16 ≡ w = omega arith in
@@ -234,15 +234,15 @@ module _ (d : List ℕ) (some : 1 ≤ length d) (most : length d ≤ 256) where
         ∙ case-data _ 0 0 p (omega arith) (w / 4) (omega arith) (omega (arith, hurt-length (8 + w) b in-data))
         ∙ ap₂ dataBit j c
 
-    pub data-bit-judged : judged (flipped (8 + w) b (unitOf d)) ≡ reply 0 2 w b (length d)
-    data-bit-judged = judged-as (flipped (8 + w) b (unitOf d)) (dataBit w b) (hurt-length (8 + w) b in-data) data-found
+    pub data-bit-judged : judgeReply (flipped (unitOf d) (8 + w) b) ≡ reply 0 2 w b (length d)
+    data-bit-judged = judged-as (flipped (unitOf d) (8 + w) b) (dataBit w b) (hurt-length (8 + w) b in-data) data-found
 
-    data-flipped : drop 8 (flipped (8 + w) b (unitOf d)) ≡ flipped w b d
+    data-flipped : drop 8 (flipped (unitOf d) (8 + w) b) ≡ flipped d w b
     unfolding flipped
     data-flipped =
         drop-set-add 8 (unitOf d) w (getD (unitOf d) (8 + w) 0 ⊕ 2 ^ b)
         ∙ ap₂ (λ (s : List ℕ) (x : ℕ). set s w (x ⊕ 2 ^ b)) (unit-data d) (sym (getD-drop 8 (unitOf d) w 0) ∙ ap (λ (s : List ℕ). getD s w 0) (unit-data d))
 
-    pub data-bit-data : unitData (flipped (8 + w) b (unitOf d)) ≡ d
+    pub data-bit-data : unitData (flipped (unitOf d) (8 + w) b) ≡ d
     unfolding unitData
     data-bit-data = ap₂ repaired data-found data-flipped ∙ flip-twice w b d hw

@@ -5,7 +5,7 @@ use mathlib.Core.List.{List, [], _∷_}
 use Prim.Native.Nat.{ℕ}
 use Rattle.base.specs.Refusal.{answer, followsPaper}
 use Rattle.parity.specs.Parity.{xorAll, number, bitOf, bitFrom, rowParity, columnParity, rowWord, columnWord, parityWords}
-use Rattle.parity.specs.Unit.{unitOf, flipped, rowDiffers, columnDiffers, sumAll, firstOf, fiveCases, finding, unitData, unitRefusal, judged, reply, refused, unitCauses, checkCauses, writeCauses}
+use Rattle.parity.specs.Unit.{unitOf, flipped, rowDiffers, columnDiffers, sumAll, firstOf, fiveCases, finding, unitData, judgeVerdict, judgeReply, reply, refused, judgeCauses, checkCauses, writeCauses}
 
 -- 4: data 8000h: parity words 0 and 4 are 8000h, others 0
 pub example4 : unitOf (0x8000 ∷ []) ≡ 0x8000 ∷ 0 ∷ 0 ∷ 0 ∷ 0x8000 ∷ 0 ∷ 0 ∷ 0 ∷ 0x8000 ∷ []
@@ -13,8 +13,8 @@ unfolding xorAll number bitOf bitFrom rowParity columnParity rowWord columnWord 
 example4 = refl
 
 -- 5: the same data with all parity 0: repaired to 0, word 0 bit 15
-pub example5 : judged (0 ∷ 0 ∷ 0 ∷ 0 ∷ 0 ∷ 0 ∷ 0 ∷ 0 ∷ 0x8000 ∷ []) ≡ reply 0 2 0 15 1
-unfolding xorAll bitOf bitFrom rowParity columnParity rowDiffers columnDiffers sumAll firstOf fiveCases finding unitRefusal judged answer
+pub example5 : judgeReply (0 ∷ 0 ∷ 0 ∷ 0 ∷ 0 ∷ 0 ∷ 0 ∷ 0 ∷ 0x8000 ∷ []) ≡ reply 0 2 0 15 1
+unfolding xorAll bitOf bitFrom rowParity columnParity rowDiffers columnDiffers sumAll firstOf fiveCases finding judgeVerdict judgeReply answer
 example5 = refl
 
 pub repaired5 : unitData (0 ∷ 0 ∷ 0 ∷ 0 ∷ 0 ∷ 0 ∷ 0 ∷ 0 ∷ 0x8000 ∷ []) ≡ 0 ∷ []
@@ -22,8 +22,8 @@ unfolding xorAll bitOf bitFrom rowParity columnParity rowDiffers columnDiffers s
 repaired5 = refl
 
 -- 6: data 0, parity word 0 = 4000h only: data as they stand
-pub example6 : judged (0x4000 ∷ 0 ∷ 0 ∷ 0 ∷ 0 ∷ 0 ∷ 0 ∷ 0 ∷ 0 ∷ []) ≡ reply 0 1 0 14 1
-unfolding xorAll bitOf bitFrom rowParity columnParity rowDiffers columnDiffers sumAll firstOf fiveCases finding unitRefusal judged answer
+pub example6 : judgeReply (0x4000 ∷ 0 ∷ 0 ∷ 0 ∷ 0 ∷ 0 ∷ 0 ∷ 0 ∷ 0 ∷ []) ≡ reply 0 1 0 14 1
+unfolding xorAll bitOf bitFrom rowParity columnParity rowDiffers columnDiffers sumAll firstOf fiveCases finding judgeVerdict judgeReply answer
 example6 = refl
 
 pub repaired6 : unitData (0x4000 ∷ 0 ∷ 0 ∷ 0 ∷ 0 ∷ 0 ∷ 0 ∷ 0 ∷ 0 ∷ []) ≡ 0 ∷ []
@@ -31,11 +31,11 @@ unfolding xorAll bitOf bitFrom rowParity columnParity rowDiffers columnDiffers s
 repaired6 = refl
 
 -- 7: as 6 with parity word 4 = 8000h too: refusal 6
-pub example7 : judged (0x4000 ∷ 0 ∷ 0 ∷ 0 ∷ 0x8000 ∷ 0 ∷ 0 ∷ 0 ∷ 0 ∷ []) ≡ refused 6
-unfolding xorAll bitOf bitFrom rowParity columnParity rowDiffers columnDiffers sumAll firstOf fiveCases finding unitRefusal judged answer
+pub example7 : judgeReply (0x4000 ∷ 0 ∷ 0 ∷ 0 ∷ 0x8000 ∷ 0 ∷ 0 ∷ 0 ∷ 0 ∷ []) ≡ refused 6
+unfolding xorAll bitOf bitFrom rowParity columnParity rowDiffers columnDiffers sumAll firstOf fiveCases finding judgeVerdict judgeReply answer
 example7 = refl
 
 -- ---- every call's causes follow the paper's order
 
-pub in-order : (u : List ℕ) (k room : ℕ) → (followsPaper (unitCauses u) ≡ true) × (followsPaper (checkCauses u room) ≡ true) × (followsPaper (writeCauses k room) ≡ true)
+pub in-order : (u : List ℕ) (k room : ℕ) → (followsPaper (judgeCauses u) ≡ true) × (followsPaper (checkCauses u room) ≡ true) × (followsPaper (writeCauses k room) ≡ true)
 in-order u k room = (refl, refl, refl)

@@ -16,8 +16,8 @@ unfoldable pub unitOf : List ℕ → List ℕ
 unitOf d = parityWords d ++ d
 
 -- the words with one bit flipped; bit 15 of a word is the most significant
-unfoldable pub flipped : ℕ → ℕ → List ℕ → List ℕ
-flipped w b ws = set ws w (getD ws w 0 ⊕ 2 ^ b)
+unfoldable pub flipped : List ℕ → ℕ → ℕ → List ℕ
+flipped ws w b = set ws w (getD ws w 0 ⊕ 2 ^ b)
 
 -- ---- R and C
 
@@ -69,7 +69,7 @@ finding u =
 
 -- the data as they stand, but a data bit that was hit is flipped back
 abbrev pub repaired : Finding → List ℕ → List ℕ
-repaired (dataBit w b) d = flipped w b d
+repaired (dataBit w b) d = flipped d w b
 repaired sound d = d
 repaired (parityBit w b) d = d
 repaired neither d = d
@@ -90,11 +90,11 @@ isNeither (parityBit w b) = false
 isNeither (dataBit w b) = false
 isNeither neither = true
 
-abbrev pub unitCauses : List ℕ → Causes
-unitCauses u = (wrongLength, notUnit (length u)) ∷ (wrongParity, isNeither (finding u)) ∷ []
+abbrev pub judgeCauses : List ℕ → Causes
+judgeCauses u = (wrongLength, notUnit (length u)) ∷ (wrongParity, isNeither (finding u)) ∷ []
 
-unfoldable pub unitRefusal : List ℕ → ℕ
-unitRefusal u = verdict (unitCauses u)
+unfoldable pub judgeVerdict : List ℕ → ℕ
+judgeVerdict u = verdict (judgeCauses u)
 
 abbrev pub reply : ℕ → ℕ → ℕ → ℕ → ℕ → Judged
 reply v s w b n = record { refusal = v; case = s; word = record { 0 = w }; bit = b; length = record { 0 = n } }
@@ -109,22 +109,22 @@ named (parityBit w b) k = reply 0 1 w b k
 named (dataBit w b) k = reply 0 2 w b k
 named neither k = reply 0 0 0 0 k
 
-unfoldable pub judged : List ℕ → Judged
-judged u = answer (unitRefusal u) refused (named (finding u) (length u - 8))
+unfoldable pub judgeReply : List ℕ → Judged
+judgeReply u = answer (judgeVerdict u) refused (named (finding u) (length u - 8))
 
 -- ---- the checker: the judge's answer, or 3 where the room has fewer than k words; the data go to the room
 
 abbrev pub checkCauses : List ℕ → ℕ → Causes
 checkCauses u room = (wrongLength, notUnit (length u)) ∷ (wrongParity, isNeither (finding u)) ∷ (noRoom, ltb room (length u - 8)) ∷ []
 
-unfoldable pub checkRefusal : List ℕ → ℕ → ℕ
-checkRefusal u room = verdict (checkCauses u room)
+unfoldable pub checkVerdict : List ℕ → ℕ → ℕ
+checkVerdict u room = verdict (checkCauses u room)
 
-unfoldable pub checked : List ℕ → ℕ → Judged
-checked u room = answer (checkRefusal u room) refused (named (finding u) (length u - 8))
+unfoldable pub checkReply : List ℕ → ℕ → Judged
+checkReply u room = answer (checkVerdict u room) refused (named (finding u) (length u - 8))
 
-unfoldable pub afterCheck : List ℕ → List ℕ → List ℕ
-afterCheck u room = answer (checkRefusal u (length room)) (λ v. room) (put (unitData u) 0 room)
+unfoldable pub checkRoom : List ℕ → List ℕ → List ℕ
+checkRoom u room = answer (checkVerdict u (length room)) (λ v. room) (put (unitData u) 0 room)
 
 -- ---- the writer
 
@@ -132,11 +132,11 @@ afterCheck u room = answer (checkRefusal u (length room)) (λ v. room) (put (uni
 abbrev pub writeCauses : ℕ → ℕ → Causes
 writeCauses k room = (wrongLength, not (leb 1 k && leb k 256)) ∷ (noRoom, ltb room (8 + k)) ∷ []
 
-unfoldable pub writeRefusal : ℕ → ℕ → ℕ
-writeRefusal k room = verdict (writeCauses k room)
+unfoldable pub writeVerdict : ℕ → ℕ → ℕ
+writeVerdict k room = verdict (writeCauses k room)
 
-unfoldable pub written : ℕ → ℕ → Written
-written k room = settled (writeRefusal k room) (8 + k)
+unfoldable pub writeReply : ℕ → ℕ → Written
+writeReply k room = settled (writeVerdict k room) (8 + k)
 
-unfoldable pub afterWrite : List ℕ → List ℕ → List ℕ
-afterWrite d room = answer (writeRefusal (length d) (length room)) (λ v. room) (put (unitOf d) 0 room)
+unfoldable pub writeRoom : List ℕ → List ℕ → List ℕ
+writeRoom d room = answer (writeVerdict (length d) (length room)) (λ v. room) (put (unitOf d) 0 room)

@@ -9,7 +9,7 @@ use base::room;
 ghost use mathlib.Core.Path.{_≡_};
 ghost use Prim.Native.Nat.{_-_, _%_, _≤_};
 ghost use lib.ListN.{length};
-ghost use Rattle.parity.specs.Unit.{reply, refused, fiveCases, judged, checked, afterCheck, written, afterWrite};
+ghost use Rattle.parity.specs.Unit.{reply, refused, fiveCases, judgeReply, checkReply, checkRoom, writeReply, writeRoom};
 ghost use Rattle.parity.specs.Sums.{differences, answerOf};
 
 // What is found of a unit: the case (0 sound, 1 a parity bit was hit, 2 a data bit was hit and is repaired), the parity or data
@@ -22,7 +22,7 @@ pub struct Judged {
     pub length: Words,
 }
 
-fn refuse(number: u8) -> Judged
+fn refused(number: u8) -> Judged
     ensures { λ r. ⌜ r ≡ refused number ⌝ }
 {
     Judged {
@@ -71,7 +71,7 @@ fn five_cases(r: u32, c: u32, row: usize, column: usize, k: usize) -> Judged
     if (r == 1) & (c == 1) & (word < k) {
         return accept(2, word, bit_of(column), k);
     }
-    refuse(refusal::PARITY)
+    refused(refusal::PARITY)
 }
 
 // Which rows and columns have another parity than the unit's parity words say.
@@ -88,11 +88,11 @@ fn differing(unit: &[u16]) -> Sums
 
 // What stands in a unit, without its data.
 pub fn judge_unit(unit: &[u16]) -> Judged
-    ensures { λ r. ⌜ r ≡ judged (now (unit .entry)) ⌝ }
+    ensures { λ r. ⌜ r ≡ judgeReply (now (unit .entry)) ⌝ }
 {
     let n = unit.len();
     if !((9 <= n) & (n <= 264)) {
-        return refuse(refusal::LENGTH);
+        return refused(refusal::LENGTH);
     }
     let d = differing(unit);
     five_cases(
@@ -106,22 +106,22 @@ pub fn judge_unit(unit: &[u16]) -> Judged
 
 // The checker's reply.
 fn look(unit: &[u16], room: usize) -> Judged
-    ensures { λ r. ⌜ r ≡ checked (now (unit .entry)) room ⌝ }
+    ensures { λ r. ⌜ r ≡ checkReply (now (unit .entry)) room ⌝ }
 {
     let r = judge_unit(unit);
     if r.refusal != 0 {
         return r;
     }
     if room < r.length.0 {
-        return refuse(refusal::ROOM);
+        return refused(refusal::ROOM);
     }
     r
 }
 
 // A unit's data to the room, repaired where a data bit was hit.
 pub fn check_unit(unit: &[u16], room: &mut [u16]) -> Judged
-    ensures { λ r. ⌜ r ≡ checked (now (unit .entry)) (length (now (room .entry))) ⌝ }
-    ensures { λ _. ⌜ now (room .exit) ≡ afterCheck (now (unit .entry)) (now (room .entry)) ⌝ }
+    ensures { λ r. ⌜ r ≡ checkReply (now (unit .entry)) (length (now (room .entry))) ⌝ }
+    ensures { λ _. ⌜ now (room .exit) ≡ checkRoom (now (unit .entry)) (now (room .entry)) ⌝ }
 {
     let r = look(unit, room.len());
     if r.refusal != 0 {
@@ -138,7 +138,7 @@ pub fn check_unit(unit: &[u16], room: &mut [u16]) -> Judged
 
 // The writer's reply.
 fn plan(data: &[u16], room: usize) -> Written
-    ensures { λ r. ⌜ r ≡ written (length (now («data» .entry))) room ⌝ }
+    ensures { λ r. ⌜ r ≡ writeReply (length (now («data» .entry))) room ⌝ }
 {
     let k = data.len();
     refusal::settle(
@@ -153,8 +153,8 @@ fn plan(data: &[u16], room: usize) -> Written
 
 // The unit of the data to the room: the parity words, then the data.
 pub fn write_unit(data: &[u16], room: &mut [u16]) -> Written
-    ensures { λ r. ⌜ r ≡ written (length (now («data» .entry))) (length (now (room .entry))) ⌝ }
-    ensures { λ _. ⌜ now (room .exit) ≡ afterWrite (now («data» .entry)) (now (room .entry)) ⌝ }
+    ensures { λ r. ⌜ r ≡ writeReply (length (now («data» .entry))) (length (now (room .entry))) ⌝ }
+    ensures { λ _. ⌜ now (room .exit) ≡ writeRoom (now («data» .entry)) (now (room .entry)) ⌝ }
 {
     let r = plan(data, room.len());
     if r.refusal != 0 {

@@ -14,7 +14,7 @@ use Rattle.chunk_laws.proofs.Written.{written-alone, written-followed}
 use Rattle.parity.specs.declared.Judged.{Judged}
 use Rattle.parity.specs.Parity.{parityWords}
 use Rattle.parity.specs.Unit.Finding.{sound, parityBit, dataBit, neither}
-use Rattle.parity.specs.Unit.{Finding, finding, unitOf, flipped, unitCauses, unitRefusal, unitData, reply, judged, refused, named, checkRefusal, checked, afterCheck}
+use Rattle.parity.specs.Unit.{Finding, finding, unitOf, flipped, judgeCauses, judgeVerdict, unitData, reply, judgeReply, refused, named, checkVerdict, checkReply, checkRoom}
 use Rattle.parity.proofs.SingleFlip.{written-judged, written-data, parity-bit-judged, parity-bit-data, data-bit-judged, data-bit-data}
 use Rattle.health.proofs.RoundTrip.{room-read}
 use Rattle.command_laws.proofs.ReadBack.{given-back, accepted-alike}
@@ -27,42 +27,42 @@ use Rattle.promises.specs.Demand2.Arrived.{none, whole, hurt}
 -- ---- from the judge to the checker
 
 -- the judge's number is that of the unit's causes
-judged-number : (u : List ℕ) → judged u .refusal ≡ unitRefusal u
-unfolding judged answer
-judged-number u = by-cases (eqb (unitRefusal u) 0) refl (finding u)
+judged-number : (u : List ℕ) → judgeReply u .refusal ≡ judgeVerdict u
+unfolding judgeReply answer
+judged-number u = by-cases (eqb (judgeVerdict u) 0) refl (finding u)
   where
-    by-cases : (b : Bool) → eqb (unitRefusal u) 0 ≡ b → (f : Finding)
-        → cond b (named f (length u - 8)) (refused (unitRefusal u)) .refusal ≡ unitRefusal u
+    by-cases : (b : Bool) → eqb (judgeVerdict u) 0 ≡ b → (f : Finding)
+        → cond b (named f (length u - 8)) (refused (judgeVerdict u)) .refusal ≡ judgeVerdict u
     by-cases false e f = refl
-    by-cases true e sound = sym (eqb-true (unitRefusal u) 0 e)
-    by-cases true e (parityBit w b) = sym (eqb-true (unitRefusal u) 0 e)
-    by-cases true e (dataBit w b) = sym (eqb-true (unitRefusal u) 0 e)
-    by-cases true e neither = sym (eqb-true (unitRefusal u) 0 e)
+    by-cases true e sound = sym (eqb-true (judgeVerdict u) 0 e)
+    by-cases true e (parityBit w b) = sym (eqb-true (judgeVerdict u) 0 e)
+    by-cases true e (dataBit w b) = sym (eqb-true (judgeVerdict u) 0 e)
+    by-cases true e neither = sym (eqb-true (judgeVerdict u) 0 e)
 
 -- a unit that the judge accepts, in a room that has its data words
-module _ (u : List ℕ) (z : unitRefusal u ≡ 0) where
-  none-refused : (m : ℕ) → length u - 8 ≤ m → checkRefusal u m ≡ 0
-  unfolding unitRefusal checkRefusal
+module _ (u : List ℕ) (z : judgeVerdict u ≡ 0) where
+  none-refused : (m : ℕ) → length u - 8 ≤ m → checkVerdict u m ≡ 0
+  unfolding judgeVerdict checkVerdict
   none-refused m h =
-      let s = spared (unitCauses u) refl z in
+      let s = spared (judgeCauses u) refl z in
       rw (s .0, s .1 .0, le-ltb m (length u - 8) h)
 
-  as-judged : (m : ℕ) → length u - 8 ≤ m → checked u m ≡ judged u
-  unfolding checked judged
+  as-judged : (m : ℕ) → length u - 8 ≤ m → checkReply u m ≡ judgeReply u
+  unfolding checkReply judgeReply
   as-judged m h = answer-yes _ _ _ (none-refused m h) ∙ sym (answer-yes _ _ _ z)
 
-  data-given : (room : List ℕ) → length u - 8 ≤ length room → afterCheck u room ≡ put (unitData u) 0 room
-  unfolding afterCheck
+  data-given : (room : List ℕ) → length u - 8 ≤ length room → checkRoom u room ≡ put (unitData u) 0 room
+  unfolding checkRoom
   data-given room h = answer-yes _ _ _ (none-refused (length room) h)
 
 -- What is known of a written unit, hurt or not: its length, the judge's answer and its data.
 record Known (u d : List ℕ) (s w b : ℕ) : Type 0 where
   long : length u ≡ 8 + length d
-  told : judged u ≡ reply 0 s w b (length d)
+  told : judgeReply u ≡ reply 0 s w b (length d)
   holds : unitData u ≡ d
 
 module _ {u d : List ℕ} {s w b : ℕ} (k : Known u d s w b) where
-  accepted : unitRefusal u ≡ 0
+  accepted : judgeVerdict u ≡ 0
   accepted = sym (judged-number u) ∙ ap (λ (r : Judged). r .refusal) (k .told)
 
   answers : Answers u d s w b
@@ -77,7 +77,7 @@ unit-length : (d : List ℕ) → length (unitOf d) ≡ 8 + length d
 unfolding unitOf parityWords
 unit-length d = omega arith
 
-hurt-length : (w b : ℕ) (d : List ℕ) → length (flipped w b (unitOf d)) ≡ 8 + length d
+hurt-length : (w b : ℕ) (d : List ℕ) → length (flipped (unitOf d) w b) ≡ 8 + length d
 unfolding flipped
 hurt-length w b d = length-set (unitOf d) w _ ∙ unit-length d
 
@@ -85,10 +85,10 @@ known-whole : (d : List ℕ) → Fits d → Known (unitOf d) d 0 0 0
 known-whole d h = record { long = unit-length d; told = written-judged d (h .0) (h .1); holds = written-data d (h .0) (h .1) }
 
 known-hurt : (d : List ℕ) → Fits d → (w b : ℕ) → w < 8 + length d → b < 16
-    → Known (flipped w b (unitOf d)) d (cond (ltb w 8) 1 2) (cond (ltb w 8) w (w - 8)) b
+    → Known (flipped (unitOf d) w b) d (cond (ltb w 8) 1 2) (cond (ltb w 8) w (w - 8)) b
 known-hurt d h w b hw hb = by-part (ltb w 8) refl
   where
-    by-part : (p : Bool) → ltb w 8 ≡ p → Known (flipped w b (unitOf d)) d (cond p 1 2) (cond p w (w - 8)) b
+    by-part : (p : Bool) → ltb w 8 ≡ p → Known (flipped (unitOf d) w b) d (cond p 1 2) (cond p w (w - 8)) b
     by-part true e =
         let k : w < 8 = ltb-true w 8 e in
         record {
@@ -99,7 +99,7 @@ known-hurt d h w b hw hb = by-part (ltb w 8) refl
     by-part false e =
         let v : ℕ = w - 8 in
         let n : 8 + v ≡ w = omega (arith, ltb-false w 8 e) in
-        subst (λ (x : ℕ). Known (flipped x b (unitOf d)) d 2 v b) n
+        subst (λ (x : ℕ). Known (flipped (unitOf d) x b) d 2 v b) n
         (record {
           long = hurt-length (8 + v) b d;
           told = data-bit-judged d (h .0) (h .1) v b (omega arith) hb;

@@ -7,40 +7,40 @@ use Rattle.base.specs.Room.{put}
 use Rattle.crc.specs.Crc.{crcBit, crcStep}
 use Rattle.chunk.specs.Header.{legalSize, legal, headed, ends, confirmed}
 use Rattle.chunk.specs.Reading.{listed, skippedFrom}
-use Rattle.chunk.specs.Replies.{surveyed, surveyOf}
+use Rattle.chunk.specs.Replies.{surveyed, surveyReply}
 use Rattle.parity.specs.Parity.{xorAll, number, bitOf, bitFrom, rowParity, columnParity, rowWord, columnWord, parityWords}
-use Rattle.parity.specs.Unit.{unitOf, flipped, rowDiffers, columnDiffers, sumAll, firstOf, fiveCases, finding, unitData, checkRefusal, writeRefusal, reply, refused, checked, afterCheck, afterWrite}
+use Rattle.parity.specs.Unit.{unitOf, flipped, rowDiffers, columnDiffers, sumAll, firstOf, fiveCases, finding, unitData, checkVerdict, writeVerdict, reply, refused, checkReply, checkRoom, writeRoom}
 use Rattle.health.specs.Packet.{packetCrc}
 use Rattle.health.specs.Writing.{writtenCrc}
-use Rattle.health_fields.specs.Upsets.{upset, upsetTable, readUpsets}
-use Rattle.catalogue.specs.Table.{table, permits}
+use Rattle.health_fields.specs.Upsets.{upset, upsetTable, upsetsReply}
+use Rattle.command_catalogue.specs.Table.{table, permits}
 use Rattle.command.specs.Layout.{commandBytes}
 use Rattle.command.specs.Calls.{command, noFields, given, readReply}
 use Rattle.promises.specs.Examples.{Examples, unit, upsetPacket, submode, patch}
 
-surveys : (surveyOf 0x5AF3 [] ≡ surveyed 0 0 0) × (surveyOf 0x5AF3 (0x5AF3 ∷ []) ≡ surveyed 0 0 1)
+surveys : (surveyReply 0x5AF3 [] ≡ surveyed 0 0 0) × (surveyReply 0x5AF3 (0x5AF3 ∷ []) ≡ surveyed 0 0 1)
 unfolding answer listed skippedFrom confirmed headed ends legal legalSize
 surveys = (refl, refl)
 
-writes : afterWrite (0x8000 ∷ []) (replicate 9 0xFFFF) ≡ unit 0x8000 0x8000 0x8000
-unfolding answer put afterWrite writeRefusal unitOf parityWords rowWord columnWord rowParity columnParity bitFrom bitOf number xorAll
+writes : writeRoom (0x8000 ∷ []) (replicate 9 0xFFFF) ≡ unit 0x8000 0x8000 0x8000
+unfolding answer put writeRoom writeVerdict unitOf parityWords rowWord columnWord rowParity columnParity bitFrom bitOf number xorAll
 writes = refl
 
-repairs : (checked (unit 0 0 0x8000) 1 ≡ reply 0 2 0 15 1) × (afterCheck (unit 0 0 0x8000) (0xFFFF ∷ []) ≡ 0 ∷ [])
-unfolding answer put checked afterCheck checkRefusal unitData flipped finding fiveCases firstOf sumAll rowDiffers columnDiffers rowParity columnParity bitFrom bitOf xorAll
+repairs : (checkReply (unit 0 0 0x8000) 1 ≡ reply 0 2 0 15 1) × (checkRoom (unit 0 0 0x8000) (0xFFFF ∷ []) ≡ 0 ∷ [])
+unfolding answer put checkReply checkRoom checkVerdict unitData flipped finding fiveCases firstOf sumAll rowDiffers columnDiffers rowParity columnParity bitFrom bitOf xorAll
 repairs = (refl, refl)
 
-stands : (checked (unit 0x4000 0 0) 1 ≡ reply 0 1 0 14 1) × (afterCheck (unit 0x4000 0 0) (0xFFFF ∷ []) ≡ 0 ∷ [])
-unfolding answer put checked afterCheck checkRefusal unitData flipped finding fiveCases firstOf sumAll rowDiffers columnDiffers rowParity columnParity bitFrom bitOf xorAll
+stands : (checkReply (unit 0x4000 0 0) 1 ≡ reply 0 1 0 14 1) × (checkRoom (unit 0x4000 0 0) (0xFFFF ∷ []) ≡ 0 ∷ [])
+unfolding answer put checkReply checkRoom checkVerdict unitData flipped finding fiveCases firstOf sumAll rowDiffers columnDiffers rowParity columnParity bitFrom bitOf xorAll
 stands = (refl, refl)
 
-refuses : (checked (unit 0x4000 0x8000 0) 1 ≡ refused 6) × (afterCheck (unit 0x4000 0x8000 0) (0xFFFF ∷ []) ≡ 0xFFFF ∷ [])
-unfolding answer put checked afterCheck checkRefusal finding fiveCases firstOf sumAll rowDiffers columnDiffers rowParity columnParity bitFrom bitOf xorAll
+refuses : (checkReply (unit 0x4000 0x8000 0) 1 ≡ refused 6) × (checkRoom (unit 0x4000 0x8000 0) (0xFFFF ∷ []) ≡ 0xFFFF ∷ [])
+unfolding answer put checkReply checkRoom checkVerdict finding fiveCases firstOf sumAll rowDiffers columnDiffers rowParity columnParity bitFrom bitOf xorAll
 refuses = (refl, refl)
 
-upsets : (getD (readUpsets (upsetPacket 8) .entries) 0 (upset 0 0 0) ≡ upset 1 2 3)
-    × (readUpsets (upsetPacket 9) ≡ upsetTable 7 0 0 (replicate 9 (upset 0 0 0)))
-unfolding answer readUpsets packetCrc writtenCrc crcBit crcStep
+upsets : (getD (upsetsReply (upsetPacket 8) .entries) 0 (upset 0 0 0) ≡ upset 1 2 3)
+    × (upsetsReply (upsetPacket 9) ≡ upsetTable 7 0 0 (replicate 9 (upset 0 0 0)))
+unfolding answer upsetsReply packetCrc writtenCrc crcBit crcStep
 upsets = (refl, refl)
 
 submodes : (readReply 1 1 (commandBytes submode []) ≡ command 0 submode 0) × (readReply 2 1 (commandBytes submode []) ≡ command 10 noFields 0)

@@ -7,15 +7,15 @@ use mathlib.Core.Bool.{true}
 use mathlib.Core.List.{List, _++_}
 use lib.ListN.{length}
 use Rattle.base.specs.Limit.{recordingLimit}
-use Rattle.chunk_laws.specs.Stretch.{Chunk, words, clean}
+use Rattle.chunk_laws.specs.Stretch.{Laid, words, clean}
 use Rattle.chunk_laws.specs.Resync.{ReadAsAlone}
 use Rattle.frame_laws.specs.Resync.{FramesAsAlone}
 
 -- the list and the frames of the stretch `cs` after the words `a`
-pub record AsAlone (sync : ℕ) (a : List ℕ) (cs : List Chunk) : Type 0 where
+pub record AsAlone (sync : ℕ) (a : List ℕ) (cs : List Laid) : Type 0 where
   pub lists : ReadAsAlone sync a cs
   pub frames : FramesAsAlone sync a cs
 
 -- for every sync word, all words before, and every clean stretch, in a recording within the limit
 abbrev pub Demand3 : Type 0
-Demand3 = (sync : ℕ) (a : List ℕ) (cs : List Chunk) → clean sync cs ≡ true → length (a ++ words sync cs) ≤ recordingLimit → AsAlone sync a cs
+Demand3 = (sync : ℕ) (a : List ℕ) (cs : List Laid) → clean sync cs ≡ true → length (a ++ words sync cs) ≤ recordingLimit → AsAlone sync a cs

@@ -47,9 +47,9 @@ module _ (sync : ℕ) (ws : List ℕ) where
 
   few : (k p : ℕ) → length ws ≤ p + k → p ≤ length ws → p + shortestChunk * length (rest sync ws p) ≤ length ws
   few zero p h l = omega (arith, ap length (ended sync ws p (found-end sync ws p (omega arith)) .lists))
-  few (suc k) p h l = by-found (few k) (nextFrom sync p ws) refl
+  few (suc k) p h l = by-found (few k) (nextFrom sync ws p) refl
     where
-      by-found : ((q : ℕ) → length ws ≤ q + k → q ≤ length ws → q + shortestChunk * length (rest sync ws q) ≤ length ws) → (f : Found) → nextFrom sync p ws ≡ f
+      by-found : ((q : ℕ) → length ws ≤ q + k → q ≤ length ws → q + shortestChunk * length (rest sync ws q) ≤ length ws) → (f : Found) → nextFrom sync ws p ≡ f
           → p + shortestChunk * length (rest sync ws p) ≤ length ws
       by-found more (Found.Chunk e) f =
           let n : Next sync ws p e = stepped sync ws p e f in

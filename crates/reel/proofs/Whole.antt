@@ -17,7 +17,7 @@ use Rattle.base.proofs.RoomLaws.{put-put, put-length}
 use Rattle.chunk.specs.Reading.{reading}
 use Rattle.reel.specs.declared.Reel.{Reel}
 use Rattle.reel.specs.Layout.{entryWidth, trailerWidth, indexWords, trailer, tailWords, reelOf, reelLeast, reelMost}
-use Rattle.reel.specs.Writing.{reelLength, writeCauses, writeReply, afterWrite}
+use Rattle.reel.specs.Writing.{reelLength, writeCauses, writeReply, writeRoom}
 use Rattle.reel.specs.Reading.{sameWords, nOf, countOf, recordingOf, trailerAgrees, indexAgrees, accepted, readReply, told}
 use Rattle.reel.proofs.Entries.{index-length}
 use Rattle.reel.proofs.Ends.{part-put, agrees-length}
@@ -69,8 +69,8 @@ module _ (sync : ℕ) (ws room : List ℕ) (r : Written) (e : r ≡ writeReply s
   unfolding writeReply
   number = ap (λ (x : Written). x .refusal) e ∙ settled-refusal (verdict (writeCauses sync ws (length room))) (reelLength sync ws)
 
-  pub untouched : (r .refusal ≡ 0 → ⊥) → room ≡ afterWrite sync ws room
-  unfolding afterWrite
+  pub untouched : (r .refusal ≡ 0 → ⊥) → room ≡ writeRoom sync ws room
+  unfolding writeRoom
   untouched h = sym (answer-no _ _ _ (λ z. h (number ∙ z)))
 
   module _ (z : r .refusal ≡ 0) where
@@ -80,8 +80,8 @@ module _ (sync : ℕ) (ws room : List ℕ) (r : Written) (e : r ≡ writeReply s
     pub fits : reelLength sync ws ≤ length room
     fits = ltb-false (length room) (reelLength sync ws) (spared (writeCauses sync ws (length room)) refl (sym number ∙ z) .1 .0)
 
-    pub given : (c : List ℕ) → c ≡ put (reelOf sync ws) 0 room → c ≡ afterWrite sync ws room
-    unfolding afterWrite
+    pub given : (c : List ℕ) → c ≡ put (reelOf sync ws) 0 room → c ≡ writeRoom sync ws room
+    unfolding writeRoom
     given c ec = ec ∙ sym (answer-yes _ _ _ (sym number ∙ z))
 
 -- ---- the reader

@@ -23,5 +23,5 @@ unfoldable pub writeReply : ℕ → List ℕ → ℕ → Written
 writeReply sync ws m = settled (verdict (writeCauses sync ws m)) (reelLength sync ws)
 
 -- The room afterwards: the reel at its front and every other word as it was; a refusal alters nothing.
-unfoldable pub afterWrite : ℕ → List ℕ → List ℕ → List ℕ
-afterWrite sync ws room = answer (verdict (writeCauses sync ws (length room))) (λ v. room) (put (reelOf sync ws) 0 room)
+unfoldable pub writeRoom : ℕ → List ℕ → List ℕ → List ℕ
+writeRoom sync ws room = answer (verdict (writeCauses sync ws (length room))) (λ v. room) (put (reelOf sync ws) 0 room)

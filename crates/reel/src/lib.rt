@@ -8,7 +8,7 @@ use base::refusal;
 use base::room;
 ghost use mathlib.Core.Path.{_≡_};
 ghost use lib.ListN.{length};
-ghost use Rattle.reel.specs.Writing.{writeReply, afterWrite};
+ghost use Rattle.reel.specs.Writing.{writeReply, writeRoom};
 ghost use Rattle.reel.specs.Reading.{readReply, told};
 
 // What the reader answers: the words of the recording, and the number of entries.
@@ -48,7 +48,7 @@ fn refused(number: u8) -> Reel
 // Writes the reel of a recording into lent room.
 pub fn write(recording: &[u16], sync: u16, room: &mut [u16]) -> Written
     ensures { λ r. ⌜ r ≡ writeReply sync (now (recording .entry)) (length (now (room .entry))) ⌝ }
-    ensures { λ _. ⌜ now (room .exit) ≡ afterWrite sync (now (recording .entry)) (now (room .entry)) ⌝ }
+    ensures { λ _. ⌜ now (room .exit) ≡ writeRoom sync (now (recording .entry)) (now (room .entry)) ⌝ }
 {
     let reply = plan(recording, sync, room.len());
     if reply.refusal != 0 {

@@ -19,7 +19,7 @@ use Rattle.chunk.specs.declared.Entry.{Entry}
 use Rattle.chunk.specs.Reading.{entry, reading}
 use Rattle.reel.specs.declared.Reel.{Reel}
 use Rattle.reel.specs.Layout.{entryWidth, edition, indexWords, pointers, reelCrc, trailer, tailWords, reelOf, reelWords, reelLeast, reelMost}
-use Rattle.reel.specs.Writing.{reelLength, writeCauses, writeReply, afterWrite}
+use Rattle.reel.specs.Writing.{reelLength, writeCauses, writeReply, writeRoom}
 use Rattle.reel.specs.Reading.{sameWords, countOf, nOf, crcOf, editionOf, recordingOf, indexOf, trailerAgrees, indexAgrees, accepted, readCauses, readReply, told}
 use Rattle.reel.proofs.Same.{same-true, same-refl}
 use Rattle.reel.proofs.Entries.{index-length, two}
@@ -46,7 +46,7 @@ unfolding settled
 settled-length v n e = ap (λ (x : Written). x .length .0) (answer-yes v (λ x. wrote x 0) (wrote 0 n) e)
 
 pub written-is-accepted : WrittenIsAccepted
-unfolding writeReply afterWrite reelOf
+unfolding writeReply writeRoom reelOf
 written-is-accepted sync ws room z =
     let v : ℕ = verdict (writeCauses sync ws (length room)) in
     let n : ℕ = reelLength sync ws in

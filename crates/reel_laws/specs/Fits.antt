@@ -6,14 +6,14 @@ use lib.ListN.{length, take}
 use Rattle.base.specs.Limit.{reelLimit}
 use Rattle.chunk.specs.Reading.{reading}
 use Rattle.reel.specs.Layout.{tailWords, reelOf}
-use Rattle.reel.specs.Writing.{writeReply, afterWrite}
+use Rattle.reel.specs.Writing.{writeReply, writeRoom}
 use Rattle.reel.specs.Reading.{readReply, told}
 
 -- What the writer writes the reader accepts, with the recording's length and the number of its chunks.
 abbrev pub WrittenIsAccepted : Type 0
 WrittenIsAccepted =
     (sync : ℕ) (ws room : List ℕ) → writeReply sync ws (length room) .refusal ≡ 0
-    → readReply sync (take (writeReply sync ws (length room) .length .0) (afterWrite sync ws room)) ≡ told 0 (length ws) (length (reading sync ws))
+    → readReply sync (take (writeReply sync ws (length room) .length .0) (writeRoom sync ws room)) ≡ told 0 (length ws) (length (reading sync ws))
 
 -- A reel that is accepted is the very one that the writer makes of its recording, and that recording is within the limit.
 abbrev pub AcceptedIsWritten : Type 0

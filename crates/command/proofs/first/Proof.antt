@@ -4,19 +4,10 @@ use Rattle.command.proofs.Verdicts.{first-is}
 use Rattle.command.proofs.first.Statement.{statement}
 use Rattle.command.proofs.first.Tie as tie
 
-most-requires : tie.Need-most-requires
-most-requires c κs = search needs
-
-cause-requires : tie.Need-cause-requires
-cause-requires c κs = search needs
-
-cause-requires-2 : tie.Need-cause-requires-2
-cause-requires-2 c κs = search needs
-
 returns : tie.Need-returns
 returns c =
     let a = c .before .before .before .args in
     first-is (a .argument) (a .catalogue) (a .total) (c .before .before .most .ensures) (c .before .cause .ensures) (c .cause2 .ensures)
 
 pub first-spec : {M : Type 1} → statement M
-first-spec = tie.close (tie.spec most-requires cause-requires cause-requires-2 returns)
+first-spec = tie.close (tie.spec (λ c κs. search needs) (λ c κs. search needs) (λ c κs. search needs) returns)

@@ -5,12 +5,6 @@ use Rattle.command.proofs.ReadLaws.{accepted-within, part-none, part-wh
 use Rattle.command.proofs.further.Statement.{statement}
 use Rattle.command.proofs.further.Tie as tie
 
-read-requires : tie.Need-read-requires
-read-requires c κs = search needs
-
-slice-aggregate-result : tie.Need-slice-aggregate-result
-slice-aggregate-result c = search needs
-
 returns : tie.Need-returns
 returns c = part-none _ _ _ (c .before .before .before .read .ensures) (c .before .if1 .taken)
 
@@ -23,9 +17,6 @@ sub-result c = omega (arith, accepted-within _ _ _ (c .before .before .read .ens
 part-result-start : tie.Need-part-result-start
 part-result-start c = omega (arith, accepted-within _ _ _ (c .before .before .read .ensures) (c .if1 .left))
 
-part-result-end : tie.Need-part-result-end
-part-result-end c = search needs
-
 returns-2 : tie.Need-returns-2
 returns-2 c = part-whole _ _ _ (c .before .before .before .read .ensures) (c .before .if1 .left)
 
@@ -33,11 +24,11 @@ pub further-spec : {M : Type 1} → statement M
 further-spec =
     tie.close
     (tie.spec
-    read-requires
-    slice-aggregate-result
+    (λ c κs. search needs)
+    (λ c. search needs)
     returns
     sub-last
     sub-result
     part-result-start
-    part-result-end
+    (λ c. search needs)
     returns-2)

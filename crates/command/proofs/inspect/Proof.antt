@@ -7,38 +7,8 @@ use Rattle.command.proofs.ReadLaws.{inspected}
 use Rattle.command.proofs.inspect.Statement.{statement}
 use Rattle.command.proofs.inspect.Tie as tie
 
-sub-end : tie.Need-sub-end
-sub-end c = search needs
-
 slice-aggregate-bytes : tie.Need-slice-aggregate-bytes
 slice-aggregate-bytes c = sym (length-take-le _ _ (omega arith))
-
-bytes-requires : tie.Need-bytes-requires
-bytes-requires c κs = search needs
-
-sub-judge : tie.Need-sub-judge
-sub-judge c = search needs
-
-part-judge-start : tie.Need-part-judge-start
-part-judge-start c = search needs
-
-part-judge-end : tie.Need-part-judge-end
-part-judge-end c = search needs
-
-judge-requires : tie.Need-judge-requires
-judge-requires c κs = search needs
-
-header-wrong-requires : tie.Need-header-wrong-requires
-header-wrong-requires c κs = search needs
-
-word-at-requires : tie.Need-word-at-requires
-word-at-requires c κs = search needs
-
-cause-requires : tie.Need-cause-requires
-cause-requires c κs = search needs
-
-cause-requires-2 : tie.Need-cause-requires-2
-cause-requires-2 c κs = search needs
 
 returns : tie.Need-returns
 returns c =
@@ -50,15 +20,15 @@ pub inspect-spec : {M : Type 1} → statement M
 inspect-spec =
     tie.close
     (tie.spec
-    sub-end
+    (λ c. search needs)
     slice-aggregate-bytes
-    bytes-requires
-    sub-judge
-    part-judge-start
-    part-judge-end
-    judge-requires
-    header-wrong-requires
-    word-at-requires
-    cause-requires
-    cause-requires-2
+    (λ c κs. search needs)
+    (λ c. search needs)
+    (λ c. search needs)
+    (λ c. search needs)
+    (λ c κs. search needs)
+    (λ c κs. search needs)
+    (λ c κs. search needs)
+    (λ c κs. search needs)
+    (λ c κs. search needs)
     returns)

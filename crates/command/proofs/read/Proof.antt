@@ -8,18 +8,6 @@ use Rattle.command.proofs.ReadLaws.{refused, looked}
 use Rattle.command.proofs.read.Statement.{statement}
 use Rattle.command.proofs.read.Tie as tie
 
-fields-in-requires : tie.Need-fields-in-requires
-fields-in-requires c κs = search needs
-
-asked-wrong-requires : tie.Need-asked-wrong-requires
-asked-wrong-requires c κs = search needs
-
-first-requires : tie.Need-first-requires
-first-requires c κs = search needs
-
-give-requires : tie.Need-give-requires
-give-requires c κs = search needs
-
 returns : tie.Need-returns
 returns c = refused _ _ _ (c .before .before .before .asked-wrong .ensures) (c .before .before .first .ensures) (c .before .if1 .taken) _ (c .give .ensures)
 
@@ -33,9 +21,6 @@ sub-give c =
     let a = c .before .before .before .before .before .before .args in
     omega (arith, within (c .before .before .before .asked-wrong .result) (a .catalogue) (length (a .bytes .now)) (sym (c .before .before .first .ensures) ∙ c .before .if1 .left))
 
-give-requires-2 : tie.Need-give-requires-2
-give-requires-2 c κs = search needs
-
 returns-2 : tie.Need-returns-2
 returns-2 c =
     looked _ _ _ (c .before .before .before .before .asked-wrong .ensures) (c .before .before .before .first .ensures) (c .before .before .if1 .left) (c .before .before .before .before .before .fields-in .ensures) (c .before .inspect .ensures) (c .give2 .ensures)
@@ -44,12 +29,12 @@ pub read-spec : {M : Type 1} → statement M
 read-spec =
     tie.close
     (tie.spec
-    fields-in-requires
-    asked-wrong-requires
-    first-requires
-    give-requires
+    (λ c κs. search needs)
+    (λ c κs. search needs)
+    (λ c κs. search needs)
+    (λ c κs. search needs)
     returns
     inspect-requires
     sub-give
-    give-requires-2
+    (λ c κs. search needs)
     returns-2)

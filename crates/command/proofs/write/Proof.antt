@@ -4,17 +4,11 @@ use Rattle.command.proofs.WriteLaws.{untouched, small, stored}
 use Rattle.command.proofs.write.Statement.{statement}
 use Rattle.command.proofs.write.Tie as tie
 
-plan-requires : tie.Need-plan-requires
-plan-requires c κs = search needs
-
 returns : tie.Need-returns
 returns c = (c .before .before .plan .ensures, untouched _ _ _ _ _ (c .before .before .plan .ensures) (c .if1 .taken))
 
 place-requires : tie.Need-place-requires
 place-requires c κs = small _ _ _ _ (c .before .before .before .before .before .before .args .room .now) (c .before .before .before .plan .ensures) (c .before .if1 .left)
-
-same-length : tie.Need-same-length
-same-length c = search needs
 
 returns-2 : tie.Need-returns-2
 returns-2 c =
@@ -22,4 +16,4 @@ returns-2 c =
     (e, stored _ _ _ _ _ e (c .before .before .before .before .if1 .left) (c .before .before .place .ensures))
 
 pub write-spec : {M : Type 1} → statement M
-write-spec = tie.close (tie.spec plan-requires returns place-requires same-length returns-2)
+write-spec = tie.close (tie.spec (λ c κs. search needs) returns place-requires (λ c. search needs) returns-2)

@@ -19,20 +19,8 @@ abbrev μ-loop : tie.MeasureT-loop
 loop-holds : tie.Need-loop-holds Inv-loop μ-loop
 loop-holds c = refl
 
-shared-slice-read-eight : tie.Need-shared-slice-read-eight Inv-loop μ-loop
-shared-slice-read-eight c = search needs
-
 cast-eight : tie.Need-cast-eight Inv-loop μ-loop
 cast-eight c = omega (arith, c .shared-slice-known2 .given (c .before .before .loop .i))
-
-eight-requires : tie.Need-eight-requires Inv-loop μ-loop
-eight-requires c κs = search needs
-
-add-i : tie.Need-add-i Inv-loop μ-loop
-add-i c = search needs
-
-loop-less : tie.Need-loop-less Inv-loop μ-loop
-loop-less c = search needs
 
 loop-again : tie.Need-loop-again Inv-loop μ-loop
 unfolding crcStep
@@ -54,10 +42,10 @@ last-bytes-spec =
     Inv-loop
     μ-loop
     loop-holds
-    shared-slice-read-eight
+    (λ c. search needs)
     cast-eight
-    eight-requires
-    add-i
-    loop-less
+    (λ c κs. search needs)
+    (λ c. search needs)
+    (λ c. search needs)
     loop-again
     returns)

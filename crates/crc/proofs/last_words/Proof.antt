@@ -18,21 +18,6 @@ abbrev μ-loop : tie.MeasureT-loop
 loop-holds : tie.Need-loop-holds Inv-loop μ-loop
 loop-holds c = refl
 
-mul-sixteen : tie.Need-mul-sixteen Inv-loop μ-loop
-mul-sixteen c = search needs
-
-shared-slice-read-sixteen : tie.Need-shared-slice-read-sixteen Inv-loop μ-loop
-shared-slice-read-sixteen c = search needs
-
-sixteen-requires : tie.Need-sixteen-requires Inv-loop μ-loop
-sixteen-requires c κs = search needs
-
-add-i : tie.Need-add-i Inv-loop μ-loop
-add-i c = search needs
-
-loop-less : tie.Need-loop-less Inv-loop μ-loop
-loop-less c = search needs
-
 loop-again : tie.Need-loop-again Inv-loop μ-loop
 loop-again c =
     let l = c .before .before .before in
@@ -49,10 +34,10 @@ last-words-spec =
     Inv-loop
     μ-loop
     loop-holds
-    mul-sixteen
-    shared-slice-read-sixteen
-    sixteen-requires
-    add-i
-    loop-less
+    (λ c. search needs)
+    (λ c. search needs)
+    (λ c κs. search needs)
+    (λ c. search needs)
+    (λ c. search needs)
     loop-again
     returns)

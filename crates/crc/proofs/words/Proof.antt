@@ -16,26 +16,8 @@ Inv-loop start message n h₀ i₀ h i = (i ≤ length message) × (crcWords (re
 abbrev μ-loop : tie.MeasureT-loop
 μ-loop start message n h₀ i₀ h i = length message - i
 
-begin-requires : tie.Need-begin-requires Inv-loop μ-loop
-begin-requires c κs = search needs
-
 loop-holds : tie.Need-loop-holds Inv-loop μ-loop
 loop-holds c = (omega arith, ap (λ (r : ℕ). crcWords r (c .before .before .args .message .now)) (c .begin .ensures))
-
-add-loop : tie.Need-add-loop Inv-loop μ-loop
-add-loop c = search needs
-
-words-at-requires : tie.Need-words-at-requires Inv-loop μ-loop
-words-at-requires c κs = search needs
-
-join-requires : tie.Need-join-requires Inv-loop μ-loop
-join-requires c κs = search needs
-
-add-i : tie.Need-add-i Inv-loop μ-loop
-add-i c = search needs
-
-loop-less : tie.Need-loop-less Inv-loop μ-loop
-loop-less c = search needs
 
 loop-again : tie.Need-loop-again Inv-loop μ-loop
 unfolding joined
@@ -45,12 +27,6 @@ loop-again c =
       words-turn _ (l .before .before .before .args .message .now) _ _ (c .before .before .loop-test .taken)
           (c .join .ensures ∙ ap (crcWords (registerOf (l .loop .h))) (c .before .words-at .ensures)) (l .loop .inv .1),
     )
-
-register-requires : tie.Need-register-requires Inv-loop μ-loop
-register-requires c κs = search needs
-
-last-words-requires : tie.Need-last-words-requires Inv-loop μ-loop
-last-words-requires c κs = search needs
 
 returns : tie.Need-returns Inv-loop μ-loop
 returns c =
@@ -65,14 +41,14 @@ words-spec =
     (tie.spec
     Inv-loop
     μ-loop
-    begin-requires
+    (λ c κs. search needs)
     loop-holds
-    add-loop
-    words-at-requires
-    join-requires
-    add-i
-    loop-less
+    (λ c. search needs)
+    (λ c κs. search needs)
+    (λ c κs. search needs)
+    (λ c. search needs)
+    (λ c. search needs)
     loop-again
-    register-requires
-    last-words-requires
+    (λ c κs. search needs)
+    (λ c κs. search needs)
     returns)

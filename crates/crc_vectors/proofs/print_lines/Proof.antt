@@ -11,49 +11,19 @@ Inv-loop text at₀ at = at ≤ length text + 1
 abbrev μ-loop : tie.MeasureT-loop
 μ-loop text at₀ at = length text - at
 
-loop-holds : tie.Need-loop-holds Inv-loop μ-loop
-loop-holds c = search needs
-
-line-end-requires : tie.Need-line-end-requires Inv-loop μ-loop
-line-end-requires c κs = search needs
-
-sub-print-line : tie.Need-sub-print-line Inv-loop μ-loop
-sub-print-line c = search needs
-
-part-print-line-start : tie.Need-part-print-line-start Inv-loop μ-loop
-part-print-line-start c = search needs
-
-part-print-line-end : tie.Need-part-print-line-end Inv-loop μ-loop
-part-print-line-end c = search needs
-
-print-line-requires : tie.Need-print-line-requires Inv-loop μ-loop
-print-line-requires c κs = search needs
-
-add-at : tie.Need-add-at Inv-loop μ-loop
-add-at c = search needs
-
-loop-less : tie.Need-loop-less Inv-loop μ-loop
-loop-less c = search needs
-
-loop-again : tie.Need-loop-again Inv-loop μ-loop
-loop-again c = search needs
-
-returns : tie.Need-returns Inv-loop μ-loop
-returns c = search needs
-
 pub print-lines-spec : {M : Type 1} → statement M
 print-lines-spec =
     tie.close
     (tie.spec
     Inv-loop
     μ-loop
-    loop-holds
-    line-end-requires
-    sub-print-line
-    part-print-line-start
-    part-print-line-end
-    print-line-requires
-    add-at
-    loop-less
-    loop-again
-    returns)
+    (λ c. search needs)
+    (λ c κs. search needs)
+    (λ c. search needs)
+    (λ c. search needs)
+    (λ c. search needs)
+    (λ c κs. search needs)
+    (λ c. search needs)
+    (λ c. search needs)
+    (λ c. search needs)
+    (λ c. search needs))

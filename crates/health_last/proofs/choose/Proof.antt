@@ -7,21 +7,6 @@ use Rattle.health_last.specs.Last.{shown}
 use Rattle.health_last.proofs.choose.Statement.{statement}
 use Rattle.health_last.proofs.choose.Tie as tie
 
-enum-known-science : tie.Need-enum-known-science
-enum-known-science c = search needs
-
-enum-told : tie.Need-enum-told
-enum-told c = search needs
-
-enum-known-health : tie.Need-enum-known-health
-enum-known-health c = search needs
-
-enum-told-2 : tie.Need-enum-told-2
-enum-told-2 c = search needs
-
-refused-requires : tie.Need-refused-requires
-refused-requires c κs = search needs
-
 returns : tie.Need-returns
 returns c = ap (λ (s : Sought). shown s (c .before .before .before .args .health)) (sym (c .before .science .given .1))
 
@@ -41,11 +26,11 @@ pub choose-spec : {M : Type 1} → statement M
 choose-spec =
     tie.close
     (tie.spec
-    enum-known-science
-    enum-told
-    enum-known-health
-    enum-told-2
-    refused-requires
+    (λ c. search needs)
+    (λ c. search needs)
+    (λ c. search needs)
+    (λ c. search needs)
+    (λ c κs. search needs)
     returns
     returns-2
     returns-3)

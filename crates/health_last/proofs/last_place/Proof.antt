@@ -5,29 +5,11 @@ use Rattle.health_last.proofs.Placed.{stopped, none, there}
 use Rattle.health_last.proofs.last_place.Statement.{statement}
 use Rattle.health_last.proofs.last_place.Tie as tie
 
-judge-requires : tie.Need-judge-requires
-judge-requires c κs = search needs
-
-refused-requires : tie.Need-refused-requires
-refused-requires c κs = search needs
-
 returns : tie.Need-returns
 returns c =
     let judged = c .before .before in
     let a = judged .before .before .before .args in
-    c .refused .ensures ∙ stopped (a .sync) (a .science .now) (a .kind) (a .health .now) (judged .judge .ensures) (c .before .if1 .taken)
-
-in-science-requires : tie.Need-in-science-requires
-in-science-requires c κs = search needs
-
-in-row-requires : tie.Need-in-row-requires
-in-row-requires c κs = search needs
-
-choose-requires : tie.Need-choose-requires
-choose-requires c κs = search needs
-
-refused-requires-2 : tie.Need-refused-requires-2
-refused-requires-2 c κs = search needs
+    c .refused .ensures ∙ stopped (a .sync) (a .science .now) (a .packet-type) (a .health .now) (judged .judge .ensures) (c .before .if1 .taken)
 
 returns-2 : tie.Need-returns-2
 returns-2 c =
@@ -35,7 +17,7 @@ returns-2 c =
     let tested = chosen .before .before .before in
     let a = tested .before .before .before .before .args in
     c .refused2 .ensures
-    ∙ none (a .sync) (a .science .now) (a .kind) (a .health .now) (tested .before .judge .ensures) (tested .if1 .left)
+    ∙ none (a .sync) (a .science .now) (a .packet-type) (a .health .now) (tested .before .judge .ensures) (tested .if1 .left)
     (chosen .before .before .in-science .ensures) (chosen .before .in-row .ensures) (chosen .choose .ensures) (c .before .if2 .taken)
 
 returns-3 : tie.Need-returns-3
@@ -43,19 +25,19 @@ returns-3 c =
     let chosen = c .before .before in
     let tested = chosen .before .before .before in
     let a = tested .before .before .before .before .args in
-    there (a .sync) (a .science .now) (a .kind) (a .health .now) (tested .before .judge .ensures) (tested .if1 .left)
+    there (a .sync) (a .science .now) (a .packet-type) (a .health .now) (tested .before .judge .ensures) (tested .if1 .left)
     (chosen .before .before .in-science .ensures) (chosen .before .in-row .ensures) (chosen .choose .ensures) (c .if2 .left)
 
 pub last-place-spec : {M : Type 1} → statement M
 last-place-spec =
     tie.close
     (tie.spec
-    judge-requires
-    refused-requires
+    (λ c κs. search needs)
+    (λ c κs. search needs)
     returns
-    in-science-requires
-    in-row-requires
-    choose-requires
-    refused-requires-2
+    (λ c κs. search needs)
+    (λ c κs. search needs)
+    (λ c κs. search needs)
+    (λ c κs. search needs)
     returns-2
     returns-3)

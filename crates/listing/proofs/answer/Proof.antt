@@ -4,22 +4,10 @@ use Prim.Native.Nat.{_≤_}
 use native.Mathlib.Omega.{arith}
 use lib.ListN.{length}
 use lib.Seq.{length-take-le}
-use Rattle.listing_input.proofs.Joining.{taken, after-length}
+use Rattle.program_input.proofs.Joining.{taken, after-length}
 use borrow.Author.Needs.{needs}
 use Rattle.listing.proofs.answer.Statement.{statement}
 use Rattle.listing.proofs.answer.Tie as tie
-
-slice-aggregate-words : tie.Need-slice-aggregate-words
-slice-aggregate-words c = search needs
-
-words-requires : tie.Need-words-requires
-words-requires c κs = search needs
-
-refused-requires : tie.Need-refused-requires
-refused-requires c κs = search needs
-
-returns : tie.Need-returns
-returns c = search needs
 
 -- the words that were taken: one at the least, and no more than there is room for
 within : (c : tie.Else1) → (let w = c .before .before .before .words2 in (1 ≤ w .result .length .0) × (w .result .length .0 ≤ length (w .last .1 .0)))
@@ -40,18 +28,15 @@ list-requires c κs =
     let w = c .before .before .before .before .words2 in
     omega (arith, length-take-le (w .result .length .0) (w .last .1 .0) (within (c .before) .1), within (c .before) .0)
 
-returns-2 : tie.Need-returns-2
-returns-2 c = search needs
-
 pub answer-spec : {M : Type 1} → statement M
 answer-spec =
     tie.close
     (tie.spec
-    slice-aggregate-words
-    words-requires
-    refused-requires
-    returns
+    (λ c. search needs)
+    (λ c κs. search needs)
+    (λ c κs. search needs)
+    (λ c. search needs)
     array-share-prefix-words
     slice-aggregate-list
     list-requires
-    returns-2)
+    (λ c. search needs))

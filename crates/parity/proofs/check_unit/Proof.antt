@@ -5,9 +5,6 @@ use borrow.Author.Needs.{needs}
 use Rattle.parity.proofs.check_unit.Statement.{statement}
 use Rattle.parity.proofs.check_unit.Tie as tie
 
-look-requires : tie.Need-look-requires
-look-requires c κs = search needs
-
 returns : tie.Need-returns
 returns c = (c .before .before .look .ensures, untouched _ _ _ (c .before .before .look .ensures) (c .if1 .taken))
 
@@ -16,15 +13,6 @@ sub-put-words c = long (c .before .before .before .before .before .args .unit .n
 
 part-put-words-start : tie.Need-part-put-words-start
 part-put-words-start c = long (c .before .before .before .before .before .args .unit .now) (c .before .before .before .before .before .args .room .now) _ (c .before .before .look .ensures) (c .if1 .left)
-
-part-put-words-end : tie.Need-part-put-words-end
-part-put-words-end c = search needs
-
-put-words-requires : tie.Need-put-words-requires
-put-words-requires c κs = search needs
-
-same-length : tie.Need-same-length
-same-length c = search needs
 
 returns-2 : tie.Need-returns-2
 returns-2 c =
@@ -37,9 +25,6 @@ mul-room c = omega (arith, word-small (c .before .before .before .before .before
 slice-read-room : tie.Need-slice-read-room
 slice-read-room c = word-in (c .before .before .before .before .before .before .before .before .before .before .before .before .before .args .unit .now) (c .before .before .before .before .before .before .before .before .before .before .before .before .before .args .room .now) _ (c .before .before .before .before .before .before .before .before .before .before .look .ensures) (c .before .before .before .before .before .before .before .before .if1 .left) _ (c .before .before .before .before .before .put-words .ensures) (c .before .if2 .left)
 
-cast-room : tie.Need-cast-room
-cast-room c = search needs
-
 shl-room : tie.Need-shl-room
 shl-room c = bit-in (c .before .before .before .before .before .before .before .before .before .before .before .before .before .before .args .unit .now) (c .before .before .before .before .before .before .before .before .before .before .before .before .before .before .args .room .now) _ (c .before .before .before .before .before .before .before .before .before .before .before .look .ensures) (c .before .before .before .before .before .before .before .before .before .if1 .left) (c .before .before .if2 .left)
 
@@ -48,9 +33,6 @@ mul-room-2 c = omega (arith, word-small (c .before .before .before .before .befo
 
 slice-write-room : tie.Need-slice-write-room
 slice-write-room c = word-in (c .before .before .before .before .before .before .before .before .before .before .before .before .before .before .args .unit .now) (c .before .before .before .before .before .before .before .before .before .before .before .before .before .before .args .room .now) _ (c .before .before .before .before .before .before .before .before .before .before .before .look .ensures) (c .before .before .before .before .before .before .before .before .before .if1 .left) _ (c .before .before .before .before .before .before .put-words .ensures) (c .before .before .if2 .left)
-
-same-length-2 : tie.Need-same-length-2
-same-length-2 c = search needs
 
 returns-3 : tie.Need-returns-3
 returns-3 c =
@@ -61,19 +43,19 @@ pub check-unit-spec : {M : Type 1} → statement M
 check-unit-spec =
     tie.close
     (tie.spec
-    look-requires
+    (λ c κs. search needs)
     returns
     sub-put-words
     part-put-words-start
-    part-put-words-end
-    put-words-requires
-    same-length
+    (λ c. search needs)
+    (λ c κs. search needs)
+    (λ c. search needs)
     returns-2
     mul-room
     slice-read-room
-    cast-room
+    (λ c. search needs)
     shl-room
     mul-room-2
     slice-write-room
-    same-length-2
+    (λ c. search needs)
     returns-3)

@@ -12,24 +12,6 @@ use borrow.Author.Needs.{needs}
 use Rattle.parity.proofs.differing.Statement.{statement}
 use Rattle.parity.proofs.differing.Tie as tie
 
-sub-parity : tie.Need-sub-parity
-sub-parity c = search needs
-
-part-parity-start : tie.Need-part-parity-start
-part-parity-start c = search needs
-
-part-parity-end : tie.Need-part-parity-end
-part-parity-end c = search needs
-
-parity-requires : tie.Need-parity-requires
-parity-requires c κs = search needs
-
-bits-from-requires : tie.Need-bits-from-requires
-bits-from-requires c κs = search needs
-
-bits-from-requires-2 : tie.Need-bits-from-requires-2
-bits-from-requires-2 c κs = search needs
-
 returns : tie.Need-returns
 returns c =
     let u = c .before .before .before .before .before .before .before .args .unit .now in
@@ -41,10 +23,10 @@ pub differing-spec : {M : Type 1} → statement M
 differing-spec =
     tie.close
     (tie.spec
-    sub-parity
-    part-parity-start
-    part-parity-end
-    parity-requires
-    bits-from-requires
-    bits-from-requires-2
+    (λ c. search needs)
+    (λ c. search needs)
+    (λ c. search needs)
+    (λ c κs. search needs)
+    (λ c κs. search needs)
+    (λ c κs. search needs)
     returns)

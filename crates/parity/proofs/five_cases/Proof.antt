@@ -5,71 +5,38 @@ use borrow.Author.Needs.{needs}
 use Rattle.parity.proofs.five_cases.Statement.{statement}
 use Rattle.parity.proofs.five_cases.Tie as tie
 
-mul-word : tie.Need-mul-word
-mul-word c = search needs
-
-add-word : tie.Need-add-word
-add-word c = search needs
-
-accept-requires : tie.Need-accept-requires
-accept-requires c κs = search needs
-
 returns : tie.Need-returns
 returns c = c .accept .ensures ∙ case-sound _ _ _ _ _ (c .before .if1 .taken)
-
-bit-of-requires : tie.Need-bit-of-requires
-bit-of-requires c κs = search needs
-
-accept-requires-2 : tie.Need-accept-requires-2
-accept-requires-2 c κs = search needs
 
 returns-2 : tie.Need-returns-2
 returns-2 c = c .accept2 .ensures ∙ case-row _ _ _ _ _ (c .before .before .before .if1 .left) _ (c .before .before .if2 .taken) (c .before .bit-of .ensures)
 
-add-accept : tie.Need-add-accept
-add-accept c = search needs
-
-bit-of-requires-2 : tie.Need-bit-of-requires-2
-bit-of-requires-2 c κs = search needs
-
-accept-requires-3 : tie.Need-accept-requires-3
-accept-requires-3 c κs = search needs
-
 returns-3 : tie.Need-returns-3
 returns-3 c = c .accept3 .ensures ∙ case-column _ _ _ _ _ (c .before .before .before .before .if1 .left) _ (c .before .before .before .if2 .left) (c .before .before .if3 .taken) (c .before .bit-of2 .ensures)
-
-bit-of-requires-3 : tie.Need-bit-of-requires-3
-bit-of-requires-3 c κs = search needs
-
-accept-requires-4 : tie.Need-accept-requires-4
-accept-requires-4 c κs = search needs
 
 returns-4 : tie.Need-returns-4
 returns-4 c = c .accept4 .ensures ∙ case-data _ _ _ _ _ (c .before .before .before .before .before .if1 .left) _ (c .before .before .before .before .if2 .left) (c .before .before .before .if3 .left) (c .before .before .if4 .taken) (c .before .bit-of3 .ensures)
 
-refuse-requires : tie.Need-refuse-requires
-refuse-requires c κs = search needs
-
 returns-5 : tie.Need-returns-5
-returns-5 c = c .refuse .ensures ∙ case-neither _ _ _ _ _ (c .before .before .before .before .if1 .left) 0 (c .before .before .before .if2 .left) (c .before .before .if3 .left) (c .before .if4 .left)
+returns-5 c = c .refused .ensures ∙ case-neither _ _ _ _ _ (c .before .before .before .before .if1 .left) 0 (c .before .before .before .if2 .left) (c .before .before .if3 .left) (c .before .if4 .left)
 
 pub five-cases-spec : {M : Type 1} → statement M
 five-cases-spec =
     tie.close
     (tie.spec
-    mul-word
-    add-word
-    accept-requires
+    (λ c. search needs)
+    (λ c. search needs)
+    (λ c κs. search needs)
     returns
-    bit-of-requires
-    accept-requires-2
+    (λ c κs. search needs)
+    (λ c κs. search needs)
     returns-2
-    add-accept
-    bit-of-requires-2
-    accept-requires-3
+    (λ c. search needs)
+    (λ c κs. search needs)
+    (λ c κs. search needs)
     returns-3
-    bit-of-requires-3
-    accept-requires-4
+    (λ c κs. search needs)
+    (λ c κs. search needs)
     returns-4
-    refuse-requires
+    (λ c κs. search needs)
     returns-5)

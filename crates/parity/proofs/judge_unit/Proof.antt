@@ -8,11 +8,8 @@ use borrow.Author.Needs.{needs}
 use Rattle.parity.proofs.judge_unit.Statement.{statement}
 use Rattle.parity.proofs.judge_unit.Tie as tie
 
-refuse-requires : tie.Need-refuse-requires
-refuse-requires c κs = search needs
-
 returns : tie.Need-returns
-returns c = c .refuse .ensures ∙ wrong-length _ (c .before .if1 .taken)
+returns c = c .refused .ensures ∙ wrong-length _ (c .before .if1 .taken)
 
 differing-requires : tie.Need-differing-requires
 differing-requires c κs = between 9 264 _ (c .if1 .left)
@@ -36,7 +33,7 @@ pub judge-unit-spec : {M : Type 1} → statement M
 judge-unit-spec =
     tie.close
     (tie.spec
-    refuse-requires
+    (λ c κs. search needs)
     returns
     differing-requires
     cast-five-cases

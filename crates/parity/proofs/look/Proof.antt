@@ -5,20 +5,14 @@ use borrow.Author.Needs.{needs}
 use Rattle.parity.proofs.look.Statement.{statement}
 use Rattle.parity.proofs.look.Tie as tie
 
-judge-unit-requires : tie.Need-judge-unit-requires
-judge-unit-requires c κs = search needs
-
 returns : tie.Need-returns
 returns c = as-judged _ _ _ (c .before .before .judge-unit .ensures) (c .if1 .taken)
 
-refuse-requires : tie.Need-refuse-requires
-refuse-requires c κs = search needs
-
 returns-2 : tie.Need-returns-2
-returns-2 c = c .refuse .ensures ∙ no-room _ _ _ (c .before .before .before .before .before .judge-unit .ensures) (c .before .before .before .if1 .left) (c .before .if2 .taken)
+returns-2 c = c .refused .ensures ∙ no-room _ _ _ (c .before .before .before .before .before .judge-unit .ensures) (c .before .before .before .if1 .left) (c .before .if2 .taken)
 
 returns-3 : tie.Need-returns-3
 returns-3 c = room-enough _ _ _ (c .before .before .before .before .judge-unit .ensures) (c .before .before .if1 .left) (c .if2 .left)
 
 pub look-spec : {M : Type 1} → statement M
-look-spec = tie.close (tie.spec judge-unit-requires returns refuse-requires returns-2 returns-3)
+look-spec = tie.close (tie.spec (λ c κs. search needs) returns (λ c κs. search needs) returns-2 returns-3)

@@ -5,29 +5,11 @@ use borrow.Author.Needs.{needs}
 use Rattle.parity.proofs.write_unit.Statement.{statement}
 use Rattle.parity.proofs.write_unit.Tie as tie
 
-plan-requires : tie.Need-plan-requires
-plan-requires c κs = search needs
-
 returns : tie.Need-returns
 returns c = (c .before .before .plan .ensures, untouched _ _ _ (c .before .before .plan .ensures) (c .if1 .taken))
 
 parity-requires : tie.Need-parity-requires
 parity-requires c κs = right-length (c .before .before .before .before .before .args .«data» .now) (c .before .before .before .before .before .args .room .now) _ (c .before .before .plan .ensures) (c .if1 .left) .1
-
-parity-words-requires : tie.Need-parity-words-requires
-parity-words-requires c κs = search needs
-
-slice-aggregate-put-words : tie.Need-slice-aggregate-put-words
-slice-aggregate-put-words c = search needs
-
-put-words-requires : tie.Need-put-words-requires
-put-words-requires c κs = search needs
-
-put-words-requires-2 : tie.Need-put-words-requires-2
-put-words-requires-2 c κs = search needs
-
-same-length : tie.Need-same-length
-same-length c = search needs
 
 returns-2 : tie.Need-returns-2
 returns-2 c =
@@ -39,12 +21,12 @@ pub write-unit-spec : {M : Type 1} → statement M
 write-unit-spec =
     tie.close
     (tie.spec
-    plan-requires
+    (λ c κs. search needs)
     returns
     parity-requires
-    parity-words-requires
-    slice-aggregate-put-words
-    put-words-requires
-    put-words-requires-2
-    same-length
+    (λ c κs. search needs)
+    (λ c. search needs)
+    (λ c κs. search needs)
+    (λ c κs. search needs)
+    (λ c. search needs)
     returns-2)

@@ -12,25 +12,13 @@ use borrow.Author.Needs.{needs}
 use Rattle.reel.proofs.plan.Statement.{statement}
 use Rattle.reel.proofs.plan.Tie as tie
 
-settle-requires : tie.Need-settle-requires
-settle-requires c κs = search needs
-
 returns : tie.Need-returns
 returns c = let a = c .before .before .before .args in c .settle .ensures ∙ plan-long (a .sync) (a .recording .now) (a .room) (c .before .if1 .taken)
-
-count-requires : tie.Need-count-requires
-count-requires c κs = search needs
 
 reel-words-requires : tie.Need-reel-words-requires
 reel-words-requires c κs =
     let a = c .before .before .before .args in
     (omega arith, omega (arith, few-chunks (a .sync) (a .recording .now), ap (λ (s : Survey). s .chunks) (c .count .ensures)))
-
-cause-requires : tie.Need-cause-requires
-cause-requires c κs = search needs
-
-settle-requires-2 : tie.Need-settle-requires-2
-settle-requires-2 c κs = search needs
 
 returns-2 : tie.Need-returns-2
 returns-2 c =
@@ -44,10 +32,10 @@ pub plan-spec : {M : Type 1} → statement M
 plan-spec =
     tie.close
     (tie.spec
-    settle-requires
+    (λ c κs. search needs)
     returns
-    count-requires
+    (λ c κs. search needs)
     reel-words-requires
-    cause-requires
-    settle-requires-2
+    (λ c κs. search needs)
+    (λ c κs. search needs)
     returns-2)

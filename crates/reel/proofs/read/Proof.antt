@@ -24,26 +24,11 @@ is-n w = w .wide .ensures .0 ∙ ap (λ (t : Trailer). t .n) (w .before .before 
 within : (w : tie.After-wide) → w .wide .result + 4 ≤ length (w .before .before .before .before .before .before .before .args .reel .now)
 within w = omega (arith, is-n w, agrees-length (w .before .before .before .before .before .before .before .args .reel .now) (right w))
 
-refused-requires : tie.Need-refused-requires
-refused-requires c κs = search needs
-
 returns : tie.Need-returns
 returns c = let a = c .before .before .before .args in too-short (a .sync) (a .reel .now) _ (c .refused .ensures) (c .before .if1 .taken)
 
-refused-requires-2 : tie.Need-refused-requires-2
-refused-requires-2 c κs = search needs
-
 returns-2 : tie.Need-returns-2
 returns-2 c = let a = c .before .before .before .before .args in too-long (a .sync) (a .reel .now) _ (c .refused2 .ensures) (c .before .if2 .taken)
-
-trailer-of-requires : tie.Need-trailer-of-requires
-trailer-of-requires c κs = search needs
-
-agrees-requires : tie.Need-agrees-requires
-agrees-requires c κs = search needs
-
-refused-requires-3 : tie.Need-refused-requires-3
-refused-requires-3 c κs = search needs
 
 returns-3 : tie.Need-returns-3
 returns-3 c =
@@ -52,12 +37,6 @@ returns-3 c =
     let a = m .before .before .before .args in
     not-accepted (a .sync) (a .reel .now) (m .before .if1 .left) (m .if2 .left) _ (c .refused3 .ensures)
     (no-trailer (a .sync) (a .reel .now) (sym (g .agrees .ensures) ∙ not-true _ (c .before .if3 .taken)))
-
-wide-requires : tie.Need-wide-requires
-wide-requires c κs = search needs
-
-refused-requires-4 : tie.Need-refused-requires-4
-refused-requires-4 c κs = search needs
 
 returns-4 : tie.Need-returns-4
 returns-4 c =
@@ -71,23 +50,11 @@ returns-4 c =
 slice-aggregate-agrees : tie.Need-slice-aggregate-agrees
 slice-aggregate-agrees c = sym (length-take-le _ _ (omega (arith, within (c .before .before))))
 
-mul-agrees : tie.Need-mul-agrees
-mul-agrees c = search needs
-
 sub-agrees : tie.Need-sub-agrees
 sub-agrees c = omega (arith, within (c .before .before))
 
 part-agrees-start : tie.Need-part-agrees-start
 part-agrees-start c = omega (arith, within (c .before .before))
-
-part-agrees-end : tie.Need-part-agrees-end
-part-agrees-end c = search needs
-
-agrees-requires-2 : tie.Need-agrees-requires-2
-agrees-requires-2 c κs = search needs
-
-refused-requires-5 : tie.Need-refused-requires-5
-refused-requires-5 c κs = search needs
 
 returns-5 : tie.Need-returns-5
 returns-5 c =
@@ -99,9 +66,6 @@ returns-5 c =
     let a = m .before .before .before .args in
     not-accepted (a .sync) (a .reel .now) (m .before .if1 .left) (m .if2 .left) _ (c .refused5 .ensures)
     (as-entries (a .sync) (a .reel .now) (right w) _ (is-n w) (l .if4 .left) _ (i .agrees2 .ensures) ∙ not-true _ (c .before .if5 .taken))
-
-wide-requires-2 : tie.Need-wide-requires-2
-wide-requires-2 c κs = search needs
 
 returns-6 : tie.Need-returns-6
 returns-6 c =
@@ -118,24 +82,24 @@ pub read-spec : {M : Type 1} → statement M
 read-spec =
     tie.close
     (tie.spec
-    refused-requires
+    (λ c κs. search needs)
     returns
-    refused-requires-2
+    (λ c κs. search needs)
     returns-2
-    trailer-of-requires
-    agrees-requires
-    refused-requires-3
+    (λ c κs. search needs)
+    (λ c κs. search needs)
+    (λ c κs. search needs)
     returns-3
-    wide-requires
-    refused-requires-4
+    (λ c κs. search needs)
+    (λ c κs. search needs)
     returns-4
     slice-aggregate-agrees
-    mul-agrees
+    (λ c. search needs)
     sub-agrees
     part-agrees-start
-    part-agrees-end
-    agrees-requires-2
-    refused-requires-5
+    (λ c. search needs)
+    (λ c κs. search needs)
+    (λ c κs. search needs)
     returns-5
-    wide-requires-2
+    (λ c κs. search needs)
     returns-6)

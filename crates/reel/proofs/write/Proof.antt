@@ -10,14 +10,8 @@ use borrow.Author.Needs.{needs}
 use Rattle.reel.proofs.write.Statement.{statement}
 use Rattle.reel.proofs.write.Tie as tie
 
-plan-requires : tie.Need-plan-requires
-plan-requires c κs = search needs
-
 returns : tie.Need-returns
 returns c = let p = c .before .before in let a = p .before .before .before .args in (p .plan .ensures, untouched (a .sync) (a .recording .now) (a .room .now) _ (p .plan .ensures) (c .if1 .taken))
-
-put-words-requires : tie.Need-put-words-requires
-put-words-requires c κs = search needs
 
 write-requires : tie.Need-write-requires
 write-requires c κs =
@@ -45,9 +39,6 @@ put-trailer-requires c κs =
       omega (arith, fits (a .sync) (a .recording .now) (a .room .now) _ (p .plan .ensures) (k .if1 .left)),
     )
 
-same-length : tie.Need-same-length
-same-length c = search needs
-
 returns-2 : tie.Need-returns-2
 returns-2 c =
     let t = c .before .before in
@@ -66,10 +57,10 @@ pub write-spec : {M : Type 1} → statement M
 write-spec =
     tie.close
     (tie.spec
-    plan-requires
+    (λ c κs. search needs)
     returns
-    put-words-requires
+    (λ c κs. search needs)
     write-requires
     put-trailer-requires
-    same-length
+    (λ c. search needs)
     returns-2)

@@ -29,9 +29,6 @@ standing c =
     confirmed-is (a .sync) (a .words .now) (a .at .0) _ (sym (e .before .headed-at .ensures) ∙ not-false _ (e .if1 .left))
     (ap (λ (n : ℕ). a .at .0 + 2 + n) (c .size-of .ensures))
 
-headed-at-requires : tie.Need-headed-at-requires
-headed-at-requires c κs = search needs
-
 returns : tie.Need-returns
 returns c =
     let a = c .before .before .before .args in
@@ -46,9 +43,6 @@ mul-size-of c = record { fits = omega (arith, inside c) }
 shared-slice-read-size-of : tie.Need-shared-slice-read-size-of
 shared-slice-read-size-of c = inside (c .before)
 
-size-of-requires : tie.Need-size-of-requires
-size-of-requires c κs = search needs
-
 add-end : tie.Need-add-end
 add-end c = record { fits = omega (arith, inside (c .before .before)) }
 
@@ -57,9 +51,6 @@ add-end-2 c = record { fits = omega (arith, inside (c .before .before .before)) 
 
 returns-2 : tie.Need-returns-2
 returns-2 c = rw (standing (c .before .before), eq-eqb _ _ (c .if2 .taken))
-
-headed-at-requires-2 : tie.Need-headed-at-requires-2
-headed-at-requires-2 c κs = search needs
 
 returns-3 : tie.Need-returns-3
 returns-3 c = rw (standing (c .before .before .before .before), ne-eqb _ _ (c .before .before .if2 .left), ← c .before .headed-at2 .ensures, c .if3 .taken)
@@ -71,15 +62,15 @@ pub check-spec : {M : Type 1} → statement M
 check-spec =
     tie.close
     (tie.spec
-    headed-at-requires
+    (λ c κs. search needs)
     returns
     add-size-of
     mul-size-of
     shared-slice-read-size-of
-    size-of-requires
+    (λ c κs. search needs)
     add-end
     add-end-2
     returns-2
-    headed-at-requires-2
+    (λ c κs. search needs)
     returns-3
     returns-4)

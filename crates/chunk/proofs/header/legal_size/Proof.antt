@@ -4,12 +4,9 @@ use Rattle.chunk.specs.Header.{legalSize}
 use Rattle.chunk.proofs.header.legal_size.Statement.{statement}
 use Rattle.chunk.proofs.header.legal_size.Tie as tie
 
-either-requires : tie.Need-either-requires
-either-requires c κs = search needs
-
 returns : tie.Need-returns
 unfolding legalSize
 returns c = rw (c .either .ensures)
 
 pub legal-size-spec : {M : Type 1} → statement M
-legal-size-spec = tie.close (tie.spec either-requires returns)
+legal-size-spec = tie.close (tie.spec (λ c κs. search needs) returns)

@@ -41,21 +41,6 @@ last c =
 loop-holds : tie.Need-loop-holds Inv-loop μ-loop
 loop-holds c = start (c .before .args .sync) (c .before .args .words .now)
 
-next-requires : tie.Need-next-requires Inv-loop μ-loop
-next-requires c κs = search needs
-
-enum-known-found : tie.Need-enum-known-found Inv-loop μ-loop
-enum-known-found c = search needs
-
-enum-told : tie.Need-enum-told Inv-loop μ-loop
-enum-told c = search needs
-
-sub-all : tie.Need-sub-all Inv-loop μ-loop
-sub-all c = search needs
-
-add-all : tie.Need-add-all Inv-loop μ-loop
-add-all c = search needs
-
 returns : tie.Need-returns Inv-loop μ-loop
 returns c =
     let l = c .before .before .before in
@@ -73,9 +58,6 @@ add-skipped c = record { fits = omega (arith, step c .ahead, step c .within) }
 
 add-at : tie.Need-add-at Inv-loop μ-loop
 add-at c = record { fits = omega (arith, step c .within) }
-
-size-of-requires : tie.Need-size-of-requires Inv-loop μ-loop
-size-of-requires c κs = search needs
 
 add-at-2 : tie.Need-add-at-2 Inv-loop μ-loop
 add-at-2 c = record { fits = omega (arith, step (c .before .before) .within, ends (c .before)) }
@@ -95,17 +77,17 @@ count-spec =
     Inv-loop
     μ-loop
     loop-holds
-    next-requires
-    enum-known-found
-    enum-told
-    sub-all
-    add-all
+    (λ c κs. search needs)
+    (λ c. search needs)
+    (λ c. search needs)
+    (λ c. search needs)
+    (λ c. search needs)
     returns
     add-chunks
     sub-skipped
     add-skipped
     add-at
-    size-of-requires
+    (λ c κs. search needs)
     add-at-2
     loop-less
     loop-again)

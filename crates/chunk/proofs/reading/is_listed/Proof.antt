@@ -11,7 +11,7 @@ use Rattle.chunk.proofs.reading.is_listed.Statement.{statement}
 use Rattle.chunk.proofs.reading.is_listed.Tie as tie
 
 abbrev Inv-loop : tie.InvT-loop
-Inv-loop words sync asked at₀ at = (leftAt sync 0 at words ≡ 0) × (at ≤ asked)
+Inv-loop words sync asked at₀ at = (leftAt sync 0 words at ≡ 0) × (at ≤ asked)
 
 abbrev μ-loop : tie.MeasureT-loop
 μ-loop words sync asked at₀ at = length words - at
@@ -19,15 +19,6 @@ abbrev μ-loop : tie.MeasureT-loop
 loop-holds : tie.Need-loop-holds Inv-loop μ-loop
 unfolding leftAt
 loop-holds c = (refl, omega arith)
-
-next-requires : tie.Need-next-requires Inv-loop μ-loop
-next-requires c κs = search needs
-
-enum-known-found : tie.Need-enum-known-found Inv-loop μ-loop
-enum-known-found c = search needs
-
-enum-told : tie.Need-enum-told Inv-loop μ-loop
-enum-told c = search needs
 
 -- the chunk that was found
 step : (c : tie.After-known-told Inv-loop μ-loop)
@@ -59,9 +50,6 @@ returns-2 c =
 add-ends : tie.Need-add-ends Inv-loop μ-loop
 add-ends c = record { fits = omega (arith, step (c .before) .within) }
 
-size-of-requires : tie.Need-size-of-requires Inv-loop μ-loop
-size-of-requires c κs = search needs
-
 add-ends-2 : tie.Need-add-ends-2 Inv-loop μ-loop
 add-ends-2 c = record { fits = omega (arith, step (c .before .before .before) .within, ends (c .before)) }
 
@@ -80,7 +68,7 @@ loop-again c =
     let k = c .before .before .before .before in
     let l = k .before .before .before .before in
     let a = l .before .before .args in
-    (ap (λ (n : ℕ). leftAt (a .sync) 0 n (a .words .now)) (ends (c .before .before)) ∙ after (a .sync) (a .words .now) (l .loop .at) _ (step k) (l .loop .inv .0), c .if2 .left)
+    (ap (λ (n : ℕ). leftAt (a .sync) 0 (a .words .now) n) (ends (c .before .before)) ∙ after (a .sync) (a .words .now) (l .loop .at) _ (step k) (l .loop .inv .0), c .if2 .left)
 
 pub is-listed-spec : {M : Type 1} → statement M
 is-listed-spec =
@@ -89,13 +77,13 @@ is-listed-spec =
     Inv-loop
     μ-loop
     loop-holds
-    next-requires
-    enum-known-found
-    enum-told
+    (λ c κs. search needs)
+    (λ c. search needs)
+    (λ c. search needs)
     returns
     returns-2
     add-ends
-    size-of-requires
+    (λ c κs. search needs)
     add-ends-2
     returns-3
     loop-less

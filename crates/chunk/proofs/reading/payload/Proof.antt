@@ -5,26 +5,26 @@ use native.Mathlib.Omega.{arith}
 use lib.ListN.{length, getD}
 use borrow.Author.Needs.{needs}
 use Rattle.base.specs.Refusal.{verdict}
-use Rattle.chunk.specs.declared.Chunk.{Chunk}
+use Rattle.chunk.specs.declared.Heading.{Heading}
 use Rattle.chunk.specs.Header.{size}
-use Rattle.chunk.specs.Replies.{placeCauses}
+use Rattle.chunk.specs.Replies.{atCauses}
 use Rattle.chunk.proofs.Answers.{at-number, refused-payload, stands, size-is, part}
 use Rattle.chunk.proofs.reading.payload.Statement.{statement}
 use Rattle.chunk.proofs.reading.payload.Tie as tie
 
 -- nothing is refused
 accepted : (c : tie.Else1)
-    → (let a = c .before .before .before .before .args in verdict (placeCauses (a .sync) (a .recording .now) (a .place .0)) ≡ 0)
+    → (let a = c .before .before .before .before .args in verdict (atCauses (a .sync) (a .recording .now) (a .place .0)) ≡ 0)
 accepted c =
     let a = c .before .before .before .before .args in
-    sym (ap (λ (x : Chunk). x .refusal) (c .before .before .at .ensures) ∙ at-number (a .sync) (a .recording .now) (a .place .0)) ∙ c .if1 .left
+    sym (ap (λ (x : Heading). x .refusal) (c .before .before .at .ensures) ∙ at-number (a .sync) (a .recording .now) (a .place .0)) ∙ c .if1 .left
 
 -- the size is the header's
 sized : (c : tie.Else1)
     → (let a = c .before .before .before .before .args in c .before .before .at .result .size .0 ≡ size (getD (a .recording .now) (a .place .0 + 1) 0))
 sized c =
     let a = c .before .before .before .before .args in
-    ap (λ (x : Chunk). x .size .0) (c .before .before .at .ensures) ∙ size-is (a .sync) (a .recording .now) (a .place .0) (accepted c)
+    ap (λ (x : Heading). x .size .0) (c .before .before .at .ensures) ∙ size-is (a .sync) (a .recording .now) (a .place .0) (accepted c)
 
 -- the chunk lies within the recording
 inside : (c : tie.Else1)
@@ -33,18 +33,12 @@ inside c =
     let a = c .before .before .before .before .args in
     omega (arith, sized c, stands (a .sync) (a .recording .now) (a .place .0) (accepted c))
 
-at-requires : tie.Need-at-requires
-at-requires c κs = search needs
-
-slice-aggregate-result : tie.Need-slice-aggregate-result
-slice-aggregate-result c = search needs
-
 returns : tie.Need-returns
 returns c =
     let b = c .before .before in
     let a = b .before .before .before .args in
     refused-payload (a .sync) (a .recording .now) (a .place .0)
-    (λ z. c .before .if1 .taken (ap (λ (x : Chunk). x .refusal) (b .before .at .ensures) ∙ at-number (a .sync) (a .recording .now) (a .place .0) ∙ z))
+    (λ z. c .before .if1 .taken (ap (λ (x : Heading). x .refusal) (b .before .at .ensures) ∙ at-number (a .sync) (a .recording .now) (a .place .0) ∙ z))
 
 add-from : tie.Need-add-from
 add-from c = record { fits = omega (arith, inside c) }
@@ -54,12 +48,6 @@ add-to c = record { fits = omega (arith, inside (c .before)) }
 
 mul-result : tie.Need-mul-result
 mul-result c = record { fits = omega (arith, inside (c .before)) }
-
-sub-result : tie.Need-sub-result
-sub-result c = search needs
-
-part-result-start : tie.Need-part-result-start
-part-result-start c = search needs
 
 part-result-end : tie.Need-part-result-end
 part-result-end c = omega (arith, inside (c .before))
@@ -74,13 +62,13 @@ pub payload-spec : {M : Type 1} → statement M
 payload-spec =
     tie.close
     (tie.spec
-    at-requires
-    slice-aggregate-result
+    (λ c κs. search needs)
+    (λ c. search needs)
     returns
     add-from
     add-to
     mul-result
-    sub-result
-    part-result-start
+    (λ c. search needs)
+    (λ c. search needs)
     part-result-end
     returns-2)

@@ -5,19 +5,13 @@ use Rattle.base.specs.Refusal.{answer}
 use Rattle.chunk.proofs.reading.survey.Statement.{statement}
 use Rattle.chunk.proofs.reading.survey.Tie as tie
 
-too-long-requires : tie.Need-too-long-requires
-too-long-requires c κs = search needs
-
 returns : tie.Need-returns
 unfolding answer
 returns c = simp (sym (c .before .too-long .ensures) ∙ c .if1 .taken)
-
-count-requires : tie.Need-count-requires
-count-requires c κs = search needs
 
 returns-2 : tie.Need-returns-2
 unfolding answer
 returns-2 c = simp (sym (c .before .before .too-long .ensures) ∙ c .before .if1 .left) (c .count .ensures)
 
 pub survey-spec : {M : Type 1} → statement M
-survey-spec = tie.close (tie.spec too-long-requires returns count-requires returns-2)
+survey-spec = tie.close (tie.spec (λ c κs. search needs) returns (λ c κs. search needs) returns-2)

@@ -13,7 +13,7 @@ use Rattle.chunk.proofs.search.next.Statement.{statement}
 use Rattle.chunk.proofs.search.next.Tie as tie
 
 abbrev Inv-loop : tie.InvT-loop
-Inv-loop words sync at₀ at = nextFrom sync at words ≡ nextFrom sync at₀ words
+Inv-loop words sync at₀ at = nextFrom sync words at ≡ nextFrom sync words at₀
 
 abbrev μ-loop : tie.MeasureT-loop
 μ-loop words sync at₀ at = length words - at
@@ -21,32 +21,11 @@ abbrev μ-loop : tie.MeasureT-loop
 loop-holds : tie.Need-loop-holds Inv-loop μ-loop
 loop-holds c = refl
 
-check-requires : tie.Need-check-requires Inv-loop μ-loop
-check-requires c κs = search needs
-
-enum-told : tie.Need-enum-told Inv-loop μ-loop
-enum-told c = search needs
-
-add-second : tie.Need-add-second Inv-loop μ-loop
-add-second c = search needs
-
-word-at-requires : tie.Need-word-at-requires Inv-loop μ-loop
-word-at-requires c κs = search needs
-
-enum-told-2 : tie.Need-enum-told-2 Inv-loop μ-loop
-enum-told-2 c = search needs
-
-add-at : tie.Need-add-at Inv-loop μ-loop
-add-at c = search needs
-
-loop-less : tie.Need-loop-less Inv-loop μ-loop
-loop-less c = search needs
-
 loop-again : tie.Need-loop-again Inv-loop μ-loop
 loop-again c =
     let l = c .before .before .before .before in
     let a = l .before .before .args in
-    ap (λ (n : ℕ). nextFrom (a .sync) n (a .words .now)) (add-one (l .loop .at))
+    ap (λ (n : ℕ). nextFrom (a .sync) (a .words .now) n) (add-one (l .loop .at))
     ∙ sym (found-miss (a .sync) (a .words .now) (l .loop .at) (omega arith) (check-no _ (sym (c .before .before .check .ensures) ∙ c .enum-told2 .given .1)))
     ∙ l .loop .inv
 
@@ -68,13 +47,13 @@ next-spec =
     Inv-loop
     μ-loop
     loop-holds
-    check-requires
-    enum-told
-    add-second
-    word-at-requires
-    enum-told-2
-    add-at
-    loop-less
+    (λ c κs. search needs)
+    (λ c. search needs)
+    (λ c. search needs)
+    (λ c κs. search needs)
+    (λ c. search needs)
+    (λ c. search needs)
+    (λ c. search needs)
     loop-again
     returns
     returns-2)

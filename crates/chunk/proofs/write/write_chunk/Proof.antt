@@ -14,9 +14,6 @@ accepted c =
     let a = c .before .before .before .before .before .args in
     given (a .sync) (a .kind) (a .camera) (a .payload .now) (a .room .now) _ (c .before .before .plan .ensures) (c .if1 .left)
 
-plan-requires : tie.Need-plan-requires
-plan-requires c κs = search needs
-
 returns : tie.Need-returns
 returns c = (c .before .before .plan .ensures, untouched _ _ _ _ _ _ (c .before .before .plan .ensures) (c .if1 .taken))
 
@@ -25,18 +22,6 @@ cast-header-word c = record { fits = omega (arith, accepted c .2) }
 
 header-word-requires : tie.Need-header-word-requires
 header-word-requires c κs = accepted c
-
-slice-aggregate-put-words : tie.Need-slice-aggregate-put-words
-slice-aggregate-put-words c = search needs
-
-put-words-requires : tie.Need-put-words-requires
-put-words-requires c κs = search needs
-
-put-words-requires-2 : tie.Need-put-words-requires-2
-put-words-requires-2 c κs = search needs
-
-same-length : tie.Need-same-length
-same-length c = search needs
 
 returns-2 : tie.Need-returns-2
 returns-2 c =
@@ -49,12 +34,12 @@ pub write-chunk-spec : {M : Type 1} → statement M
 write-chunk-spec =
     tie.close
     (tie.spec
-    plan-requires
+    (λ c κs. search needs)
     returns
     cast-header-word
     header-word-requires
-    slice-aggregate-put-words
-    put-words-requires
-    put-words-requires-2
-    same-length
+    (λ c. search needs)
+    (λ c κs. search needs)
+    (λ c κs. search needs)
+    (λ c. search needs)
     returns-2)

@@ -4,21 +4,6 @@ use Rattle.command.proofs.ReadLaws.{fields-are}
 use Rattle.command.proofs.packet.fields_in.Statement.{statement}
 use Rattle.command.proofs.packet.fields_in.Tie as tie
 
-word-at-requires : tie.Need-word-at-requires
-word-at-requires c κs = search needs
-
-byte-at-requires : tie.Need-byte-at-requires
-byte-at-requires c κs = search needs
-
-byte-at-requires-2 : tie.Need-byte-at-requires-2
-byte-at-requires-2 c κs = search needs
-
-word-at-requires-2 : tie.Need-word-at-requires-2
-word-at-requires-2 c κs = search needs
-
-word-at-requires-3 : tie.Need-word-at-requires-3
-word-at-requires-3 c κs = search needs
-
 returns : tie.Need-returns
 returns c =
     fields-are (c .before .before .before .before .before .before .args .bytes .now) (c .before .before .before .before .word-at .ensures) (c .before .before .before .byte-at .ensures) (c .before .before .byte-at2 .ensures) (c .before .word-at2 .ensures)
@@ -28,9 +13,9 @@ pub fields-in-spec : {M : Type 1} → statement M
 fields-in-spec =
     tie.close
     (tie.spec
-    word-at-requires
-    byte-at-requires
-    byte-at-requires-2
-    word-at-requires-2
-    word-at-requires-3
+    (λ c κs. search needs)
+    (λ c κs. search needs)
+    (λ c κs. search needs)
+    (λ c κs. search needs)
+    (λ c κs. search needs)
     returns)

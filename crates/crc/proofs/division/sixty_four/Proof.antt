@@ -71,9 +71,6 @@ code-joined : (x : ℕ) → x < 2 ^ 64 → code x ≡ joined 0 x
 unfolding code crcBit crcStep joined
 code-joined = by-powers code (joined 0) code-linear (λ x y. joined-linear 0 0 x y) 64 tt
 
-low-requires : tie.Need-low-requires
-low-requires c κs = search needs
-
 returns : tie.Need-returns
 unfolding code
 returns c =
@@ -84,4 +81,4 @@ returns c =
     ∙ sym (into-block r b (c .before .fits .r .fits))
 
 pub sixty-four-spec : {M : Type 1} → statement M
-sixty-four-spec = tie.close (tie.spec low-requires returns)
+sixty-four-spec = tie.close (tie.spec (λ c κs. search needs) returns)

@@ -8,17 +8,8 @@ use Rattle.base.specs.Xor.{_⊕_}
 use Rattle.crc.proofs.held.pair_at.Statement.{statement}
 use Rattle.crc.proofs.held.pair_at.Tie as tie
 
-shared-slice-read-result : tie.Need-shared-slice-read-result
-shared-slice-read-result c = search needs
-
 cast-result : tie.Need-cast-result
 cast-result c = omega (arith, c .shared-slice-known .given (c .before .args .i))
-
-add-result : tie.Need-add-result
-add-result c = search needs
-
-shared-slice-read-result-2 : tie.Need-shared-slice-read-result-2
-shared-slice-read-result-2 c = search needs
 
 cast-result-2 : tie.Need-cast-result-2
 cast-result-2 c = omega (arith, c .shared-slice-known2 .given (c .before .before .args .i + 1))
@@ -33,9 +24,9 @@ pub pair-at-spec : {M : Type 1} → statement M
 pair-at-spec =
     tie.close
     (tie.spec
-    shared-slice-read-result
+    (λ c. search needs)
     cast-result
-    add-result
-    shared-slice-read-result-2
+    (λ c. search needs)
+    (λ c. search needs)
     cast-result-2
     returns)

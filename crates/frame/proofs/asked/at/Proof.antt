@@ -14,22 +14,16 @@ module _ (c : tie.Else1) where
   abbrev a : tie.Start
   a = c .before .before .before
 
-  none : verdict (atCauses (a .args .sync) (a .args .place .0) (a .args .recording .now)) ≡ 0
+  none : verdict (atCauses (a .args .sync) (a .args .recording .now) (a .args .place .0)) ≡ 0
   none = sym (c .before .find .ensures) ∙ c .if1 .left
 
   there : There (a .args .sync) (a .args .place .0) (a .args .recording .now)
   there = asking.there (a .args .sync) (a .args .place .0) (a .args .recording .now) none
 
-find-requires : tie.Need-find-requires
-find-requires c κs = search needs
-
-refuse-requires : tie.Need-refuse-requires
-refuse-requires c κs = search needs
-
 returns : tie.Need-returns
 returns c =
     let a = c .before .before .before .before in
-    c .refuse .ensures ∙ at-refused (a .args .sync) (a .args .place .0) (a .args .recording .now) _ (c .before .before .find .ensures) (c .before .if1 .taken)
+    c .refused .ensures ∙ at-refused (a .args .sync) (a .args .place .0) (a .args .recording .now) _ (c .before .before .find .ensures) (c .before .if1 .taken)
 
 mul-words : tie.Need-mul-words
 mul-words c = omega (arith, there c .inside)
@@ -39,9 +33,6 @@ sub-words c = omega (arith, there c .inside)
 
 part-words-start : tie.Need-part-words-start
 part-words-start c = let i = there c .inside in search needs
-
-part-words-end : tie.Need-part-words-end
-part-words-end c = search needs
 
 measure-requires : tie.Need-measure-requires
 measure-requires c κs = there (c .before) .begins
@@ -58,13 +49,13 @@ pub at-spec : {M : Type 1} → statement M
 at-spec =
     tie.close
     (tie.spec
-    find-requires
-    refuse-requires
+    (λ c κs. search needs)
+    (λ c κs. search needs)
     returns
     mul-words
     sub-words
     part-words-start
-    part-words-end
+    (λ c. search needs)
     measure-requires
     describe-requires
     returns-2)

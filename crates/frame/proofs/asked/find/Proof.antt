@@ -16,7 +16,7 @@ module _ (c : tie.Else2) where
   abbrev a : tie.Start
   a = c .before .before .before .before
 
-  listed : listedAt (a .args .sync) (a .args .place .0) (a .args .recording .now) ≡ true
+  listed : listedAt (a .args .sync) (a .args .recording .now) (a .args .place .0) ≡ true
   listed = sym (c .before .is-listed .ensures) ∙ not-false _ (c .if2 .left)
 
   inside : a .args .place .0 + 1 < length (a .args .recording .now)
@@ -24,9 +24,6 @@ module _ (c : tie.Else2) where
 
 returns : tie.Need-returns
 returns c = too-long (c .before .before .args .sync) (c .before .before .args .place .0) (c .before .before .args .recording .now) (c .if1 .taken)
-
-is-listed-requires : tie.Need-is-listed-requires
-is-listed-requires c κs = search needs
 
 returns-2 : tie.Need-returns-2
 returns-2 c =
@@ -43,12 +40,6 @@ mul-starts c = omega (arith, inside c)
 shared-slice-read-starts : tie.Need-shared-slice-read-starts
 shared-slice-read-starts c = omega (arith, inside (c .before))
 
-starts-requires : tie.Need-starts-requires
-starts-requires c κs = search needs
-
-cause-requires : tie.Need-cause-requires
-cause-requires c κs = search needs
-
 returns-3 : tie.Need-returns-3
 returns-3 c =
     let s = c .before .before .before in
@@ -61,11 +52,11 @@ find-spec =
     tie.close
     (tie.spec
     returns
-    is-listed-requires
+    (λ c κs. search needs)
     returns-2
     add-starts
     mul-starts
     shared-slice-read-starts
-    starts-requires
-    cause-requires
+    (λ c κs. search needs)
+    (λ c κs. search needs)
     returns-3)

@@ -15,21 +15,15 @@ module _ (c : tie.Else2) where
   there : There (a .args .sync) (a .args .place .0) (a .args .recording .now)
   there = at-there (a .args .sync) (a .args .place .0) (a .args .recording .now) _ (c .before .before .before .before .at .ensures) (c .before .before .if1 .left)
 
-at-requires : tie.Need-at-requires
-at-requires c κs = search needs
-
 returns : tie.Need-returns
 returns c =
     let a = c .before .before .before .before in
     judge-kept (a .args .sync) (a .args .place .0) (a .args .recording .now) _ (c .before .before .at .ensures) (c .if1 .taken)
 
-refuse-requires : tie.Need-refuse-requires
-refuse-requires c κs = search needs
-
 returns-2 : tie.Need-returns-2
 returns-2 c =
     let a = c .before .before .before .before .before .before .before in
-    c .refuse .ensures
+    c .refused .ensures
     ∙ cut (a .args .sync) (a .args .place .0) (a .args .recording .now) _ (c .before .before .before .before .before .at .ensures)
     (c .before .before .before .if1 .left) (not-true _ (c .before .if2 .taken))
 
@@ -42,19 +36,13 @@ sub-damaged c = omega (arith, there c .inside)
 part-damaged-start : tie.Need-part-damaged-start
 part-damaged-start c = let i = there c .inside in search needs
 
-part-damaged-end : tie.Need-part-damaged-end
-part-damaged-end c = search needs
-
 damaged-requires : tie.Need-damaged-requires
 damaged-requires c κs = there (c .before) .begins
-
-refuse-requires-2 : tie.Need-refuse-requires-2
-refuse-requires-2 c κs = search needs
 
 returns-3 : tie.Need-returns-3
 returns-3 c =
     let t = c .before .before .before .before in
-    c .refuse2 .ensures
+    c .refused2 .ensures
     ∙ damaged (a t .args .sync) (a t .args .place .0) (a t .args .recording .now) _ (t .before .before .before .before .at .ensures) (t .before .before .if1 .left)
     (not-false _ (t .if2 .left)) _ (c .before .before .damaged .ensures) (c .before .if3 .taken)
 
@@ -68,15 +56,15 @@ pub judge-spec : {M : Type 1} → statement M
 judge-spec =
     tie.close
     (tie.spec
-    at-requires
+    (λ c κs. search needs)
     returns
-    refuse-requires
+    (λ c κs. search needs)
     returns-2
     mul-damaged
     sub-damaged
     part-damaged-start
-    part-damaged-end
+    (λ c. search needs)
     damaged-requires
-    refuse-requires-2
+    (λ c κs. search needs)
     returns-3
     returns-4)

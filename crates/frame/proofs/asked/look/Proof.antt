@@ -5,21 +5,15 @@ use borrow.Author.Needs.{needs}
 use Rattle.frame.proofs.asked.look.Statement.{statement}
 use Rattle.frame.proofs.asked.look.Tie as tie
 
-judge-requires : tie.Need-judge-requires
-judge-requires c κs = search needs
-
 returns : tie.Need-returns
 returns c =
     let a = c .before .before .before .before in
     look-kept (a .args .sync) (a .args .place .0) (a .args .recording .now) (a .args .room) _ (c .before .before .judge .ensures) (c .if1 .taken)
 
-refuse-requires : tie.Need-refuse-requires
-refuse-requires c κs = search needs
-
 returns-2 : tie.Need-returns-2
 returns-2 c =
     let a = c .before .before .before .before .before .before .before in
-    c .refuse .ensures
+    c .refused .ensures
     ∙ too-small (a .args .sync) (a .args .place .0) (a .args .recording .now) (a .args .room) _ (c .before .before .before .before .before .judge .ensures)
     (c .before .before .before .if1 .left) (c .before .if2 .taken)
 
@@ -30,4 +24,4 @@ returns-3 c =
     (c .before .before .if1 .left) (c .if2 .left)
 
 pub look-spec : {M : Type 1} → statement M
-look-spec = tie.close (tie.spec judge-requires returns refuse-requires returns-2 returns-3)
+look-spec = tie.close (tie.spec (λ c κs. search needs) returns (λ c κs. search needs) returns-2 returns-3)

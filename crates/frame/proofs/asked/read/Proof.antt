@@ -13,9 +13,6 @@ module _ (c : tie.Else1) where
   there : There (a .args .sync) (a .args .place .0) (a .args .recording .now)
   there = read-there (a .args .sync) (a .args .place .0) (a .args .recording .now) (a .args .room .now) _ (c .before .before .look .ensures) (c .if1 .left)
 
-look-requires : tie.Need-look-requires
-look-requires c κs = search needs
-
 returns : tie.Need-returns
 returns c =
     let a = c .before .before .before .before .before in (
@@ -32,16 +29,10 @@ sub-data c = omega (arith, there c .inside)
 part-data-start : tie.Need-part-data-start
 part-data-start c = let i = there c .inside in search needs
 
-part-data-end : tie.Need-part-data-end
-part-data-end c = search needs
-
 data-requires : tie.Need-data-requires
 data-requires c κs =
     let t = c .before .before in
     ready (a t .args .sync) (a t .args .place .0) (a t .args .recording .now) (a t .args .room .now) _ (t .before .before .look .ensures) (t .if1 .left)
-
-same-length : tie.Need-same-length
-same-length c = search needs
 
 returns-2 : tie.Need-returns-2
 returns-2 c =
@@ -55,12 +46,12 @@ pub read-spec : {M : Type 1} → statement M
 read-spec =
     tie.close
     (tie.spec
-    look-requires
+    (λ c κs. search needs)
     returns
     mul-data
     sub-data
     part-data-start
-    part-data-end
+    (λ c. search needs)
     data-requires
-    same-length
+    (λ c. search needs)
     returns-2)

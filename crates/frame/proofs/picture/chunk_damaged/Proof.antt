@@ -15,31 +15,10 @@ abbrev μ-loop : tie.MeasureT-loop
 loop-holds : tie.Need-loop-holds Inv-loop μ-loop
 loop-holds c = none-passed (c .before .args .payload .now)
 
-unit-end-requires : tie.Need-unit-end-requires Inv-loop μ-loop
-unit-end-requires c κs = search needs
-
-mul-judge-unit : tie.Need-mul-judge-unit Inv-loop μ-loop
-mul-judge-unit c = search needs
-
-sub-judge-unit : tie.Need-sub-judge-unit Inv-loop μ-loop
-sub-judge-unit c = search needs
-
-part-judge-unit-start : tie.Need-part-judge-unit-start Inv-loop μ-loop
-part-judge-unit-start c = search needs
-
-part-judge-unit-end : tie.Need-part-judge-unit-end Inv-loop μ-loop
-part-judge-unit-end c = search needs
-
-judge-unit-requires : tie.Need-judge-unit-requires Inv-loop μ-loop
-judge-unit-requires c κs = search needs
-
 returns : tie.Need-returns Inv-loop μ-loop
 returns c =
     let t = c .before .before .before .before in
     hit _ _ (t .before .before .loop .inv) _ (t .before .loop-test .taken) (t .unit-end .ensures) _ (c .before .before .judge-unit .ensures) (c .if1 .taken)
-
-loop-less : tie.Need-loop-less Inv-loop μ-loop
-loop-less c = search needs
 
 loop-again : tie.Need-loop-again Inv-loop μ-loop
 loop-again c =
@@ -56,13 +35,13 @@ chunk-damaged-spec =
     Inv-loop
     μ-loop
     loop-holds
-    unit-end-requires
-    mul-judge-unit
-    sub-judge-unit
-    part-judge-unit-start
-    part-judge-unit-end
-    judge-unit-requires
+    (λ c κs. search needs)
+    (λ c. search needs)
+    (λ c. search needs)
+    (λ c. search needs)
+    (λ c. search needs)
+    (λ c κs. search needs)
     returns
-    loop-less
+    (λ c. search needs)
     loop-again
     returns-2)

@@ -18,44 +18,11 @@ loop-holds c =
     let a = c .before .before in
     none-given (a .args .payload .now) (a .args .room .now) (a .args .place) (a .pre .0) (a .pre .1 .0) (a .pre .1 .1)
 
-unit-end-requires : tie.Need-unit-end-requires Inv-loop μ-loop
-unit-end-requires c κs = search needs
-
-mul-check-unit : tie.Need-mul-check-unit Inv-loop μ-loop
-mul-check-unit c = search needs
-
-sub-check-unit : tie.Need-sub-check-unit Inv-loop μ-loop
-sub-check-unit c = search needs
-
-part-check-unit-start : tie.Need-part-check-unit-start Inv-loop μ-loop
-part-check-unit-start c = search needs
-
-part-check-unit-end : tie.Need-part-check-unit-end Inv-loop μ-loop
-part-check-unit-end c = search needs
-
-mul-check-unit-2 : tie.Need-mul-check-unit-2 Inv-loop μ-loop
-mul-check-unit-2 c = search needs
-
-sub-check-unit-2 : tie.Need-sub-check-unit-2 Inv-loop μ-loop
-sub-check-unit-2 c = search needs
-
-part-check-unit-start-2 : tie.Need-part-check-unit-start-2 Inv-loop μ-loop
-part-check-unit-start-2 c = search needs
-
-part-check-unit-end-2 : tie.Need-part-check-unit-end-2 Inv-loop μ-loop
-part-check-unit-end-2 c = search needs
-
-check-unit-requires : tie.Need-check-unit-requires Inv-loop μ-loop
-check-unit-requires c κs = search needs
-
 add-to : tie.Need-add-to Inv-loop μ-loop
 add-to c =
     let t = c .before .before .before .before .before .before in
     let l = t .before .before in
     omega (arith, room-left _ _ _ _ _ _ (l .loop .inv) _ (t .before .loop-test .taken) (t .unit-end .ensures) _ (c .before .before .before .check-unit .ensures .0))
-
-loop-less : tie.Need-loop-less Inv-loop μ-loop
-loop-less c = search needs
 
 loop-again : tie.Need-loop-again Inv-loop μ-loop
 loop-again c =
@@ -63,9 +30,6 @@ loop-again c =
     let l = t .before .before in
     given _ _ _ _ _ _ (l .loop .inv) _ (t .before .loop-test .taken) (t .unit-end .ensures) _ (c .before .before .before .check-unit .ensures .0)
     _ (c .before .before .before .check-unit .ensures .1)
-
-same-length : tie.Need-same-length Inv-loop μ-loop
-same-length c = search needs
 
 returns : tie.Need-returns Inv-loop μ-loop
 returns c = all-given _ _ _ _ _ _ (c .before .loop .inv) (c .loop-test .left)
@@ -77,18 +41,18 @@ chunk-data-spec =
     Inv-loop
     μ-loop
     loop-holds
-    unit-end-requires
-    mul-check-unit
-    sub-check-unit
-    part-check-unit-start
-    part-check-unit-end
-    mul-check-unit-2
-    sub-check-unit-2
-    part-check-unit-start-2
-    part-check-unit-end-2
-    check-unit-requires
+    (λ c κs. search needs)
+    (λ c. search needs)
+    (λ c. search needs)
+    (λ c. search needs)
+    (λ c. search needs)
+    (λ c. search needs)
+    (λ c. search needs)
+    (λ c. search needs)
+    (λ c. search needs)
+    (λ c κs. search needs)
     add-to
-    loop-less
+    (λ c. search needs)
     loop-again
-    same-length
+    (λ c. search needs)
     returns)

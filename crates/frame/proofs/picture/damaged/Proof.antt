@@ -42,26 +42,14 @@ mul-size-of c = omega (arith, within c)
 shared-slice-read-size-of : tie.Need-shared-slice-read-size-of Inv-loop μ-loop
 shared-slice-read-size-of c = omega (arith, within (c .before))
 
-size-of-requires : tie.Need-size-of-requires Inv-loop μ-loop
-size-of-requires c κs = search needs
-
 add-to : tie.Need-add-to Inv-loop μ-loop
 add-to c = omega (arith, within (c .before .before .before), c .before .size-of .ensures)
 
 mul-chunk-damaged : tie.Need-mul-chunk-damaged Inv-loop μ-loop
 mul-chunk-damaged c = omega (arith, within (c .before .before .before))
 
-sub-chunk-damaged : tie.Need-sub-chunk-damaged Inv-loop μ-loop
-sub-chunk-damaged c = search needs
-
-part-chunk-damaged-start : tie.Need-part-chunk-damaged-start Inv-loop μ-loop
-part-chunk-damaged-start c = search needs
-
 part-chunk-damaged-end : tie.Need-part-chunk-damaged-end Inv-loop μ-loop
 part-chunk-damaged-end c = let w = within (c .before .before .before) in search needs
-
-chunk-damaged-requires : tie.Need-chunk-damaged-requires Inv-loop μ-loop
-chunk-damaged-requires c κs = search needs
 
 returns : tie.Need-returns Inv-loop μ-loop
 returns c =
@@ -97,13 +85,13 @@ damaged-spec =
     add-size-of
     mul-size-of
     shared-slice-read-size-of
-    size-of-requires
+    (λ c κs. search needs)
     add-to
     mul-chunk-damaged
-    sub-chunk-damaged
-    part-chunk-damaged-start
+    (λ c. search needs)
+    (λ c. search needs)
     part-chunk-damaged-end
-    chunk-damaged-requires
+    (λ c κs. search needs)
     returns
     loop-less
     loop-again

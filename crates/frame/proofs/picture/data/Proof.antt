@@ -42,20 +42,11 @@ mul-size-of c = omega (arith, within c)
 shared-slice-read-size-of : tie.Need-shared-slice-read-size-of Inv-loop μ-loop
 shared-slice-read-size-of c = omega (arith, within (c .before))
 
-size-of-requires : tie.Need-size-of-requires Inv-loop μ-loop
-size-of-requires c κs = search needs
-
 add-to : tie.Need-add-to Inv-loop μ-loop
 add-to c = omega (arith, within (c .before .before .before), c .before .size-of .ensures)
 
 mul-chunk-data : tie.Need-mul-chunk-data Inv-loop μ-loop
 mul-chunk-data c = omega (arith, within (c .before .before .before))
-
-sub-chunk-data : tie.Need-sub-chunk-data Inv-loop μ-loop
-sub-chunk-data c = search needs
-
-part-chunk-data-start : tie.Need-part-chunk-data-start Inv-loop μ-loop
-part-chunk-data-start c = search needs
 
 part-chunk-data-end : tie.Need-part-chunk-data-end Inv-loop μ-loop
 part-chunk-data-end c = let w = within (c .before .before .before) in search needs
@@ -78,9 +69,6 @@ loop-again c =
     given _ _ _ _ _ _ _ (l .loop .inv) (t .before .before .loop-test .taken) _ (ap (λ (n : ℕ). l .loop .at + 2 + n) (t .size-of .ensures))
     _ (c .before .before .chunk-data .ensures .0) _ (c .before .before .chunk-data .ensures .1)
 
-same-length : tie.Need-same-length Inv-loop μ-loop
-same-length c = search needs
-
 returns : tie.Need-returns Inv-loop μ-loop
 returns c = all-given _ _ _ _ _ _ _ (c .before .loop .inv) (c .loop-test .left)
 
@@ -96,14 +84,14 @@ data-spec =
     add-size-of
     mul-size-of
     shared-slice-read-size-of
-    size-of-requires
+    (λ c κs. search needs)
     add-to
     mul-chunk-data
-    sub-chunk-data
-    part-chunk-data-start
+    (λ c. search needs)
+    (λ c. search needs)
     part-chunk-data-end
     chunk-data-requires
     loop-less
     loop-again
-    same-length
+    (λ c. search needs)
     returns)

@@ -39,9 +39,6 @@ sub-from c = omega (arith, within (c .before))
 part-from-start : tie.Need-part-from-start
 part-from-start c = let w = within (c .before) in search needs
 
-part-from-end : tie.Need-part-from-end
-part-from-end c = search needs
-
 measure-requires : tie.Need-measure-requires
 measure-requires c κs = subst (λ (l : List ℕ). startsFrame (c .before .before .args .sync) l ≡ true) (part (c .before .before)) (c .before .before .pre)
 
@@ -73,7 +70,7 @@ frame-there-spec =
     mul-from
     sub-from
     part-from-start
-    part-from-end
+    (λ c. search needs)
     measure-requires
     describe-requires
     add-t7

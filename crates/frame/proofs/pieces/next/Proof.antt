@@ -13,19 +13,13 @@ use Rattle.frame.proofs.pieces.next.Statement.{statement}
 use Rattle.frame.proofs.pieces.next.Tie as tie
 
 abbrev Inv-loop : tie.InvT-loop
-Inv-loop words sync at₀ at = nextPiece sync at words ≡ nextPiece sync at₀ words
+Inv-loop words sync at₀ at = nextPiece sync words at ≡ nextPiece sync words at₀
 
 abbrev μ-loop : tie.MeasureT-loop
 μ-loop words sync at₀ at = length words - at
 
 loop-holds : tie.Need-loop-holds Inv-loop μ-loop
 loop-holds c = refl
-
-next-requires : tie.Need-next-requires Inv-loop μ-loop
-next-requires c κs = search needs
-
-enum-known-found : tie.Need-enum-known-found Inv-loop μ-loop
-enum-known-found c = search needs
 
 module _ (c : tie.After-known-told Inv-loop μ-loop) where
   abbrev l : tie.At-loop Inv-loop μ-loop
@@ -50,17 +44,8 @@ ends c = omega (arith, c .size-of .ensures)
 add-end : tie.Need-add-end Inv-loop μ-loop
 add-end c = record { fits = omega (arith, step c .within) }
 
-size-of-requires : tie.Need-size-of-requires Inv-loop μ-loop
-size-of-requires c κs = search needs
-
 add-end-2 : tie.Need-add-end-2 Inv-loop μ-loop
 add-end-2 c = record { fits = omega (arith, step (c .before .before) .within, ends (c .before)) }
-
-kind-of-requires : tie.Need-kind-of-requires Inv-loop μ-loop
-kind-of-requires c κs = search needs
-
-starts-requires : tie.Need-starts-requires Inv-loop μ-loop
-starts-requires c κs = search needs
 
 frame-there-requires : tie.Need-frame-there-requires Inv-loop μ-loop
 frame-there-requires c κs =
@@ -91,12 +76,9 @@ loop-less c =
 loop-again : tie.Need-loop-again Inv-loop μ-loop
 loop-again c =
     let k = c .before .before .before .before in
-    ap (λ (n : ℕ). nextPiece (a k .args .sync) n (a k .args .words .now)) (ends (c .before .before .before))
+    ap (λ (n : ℕ). nextPiece (a k .args .sync) (a k .args .words .now) n) (ends (c .before .before .before))
     ∙ sym (passed (a k .args .sync) (a k .args .words .now) (l k .loop .at) (e k) (step k) (λ z. c .if1 .left (c .before .kind-of .ensures ∙ z)))
     ∙ l k .loop .inv
-
-enum-told : tie.Need-enum-told Inv-loop μ-loop
-enum-told c = search needs
 
 returns-3 : tie.Need-returns-3 Inv-loop μ-loop
 returns-3 c =
@@ -111,17 +93,17 @@ next-spec =
     Inv-loop
     μ-loop
     loop-holds
-    next-requires
-    enum-known-found
+    (λ c κs. search needs)
+    (λ c. search needs)
     add-end
-    size-of-requires
+    (λ c κs. search needs)
     add-end-2
-    kind-of-requires
-    starts-requires
+    (λ c κs. search needs)
+    (λ c κs. search needs)
     frame-there-requires
     returns
     returns-2
     loop-less
     loop-again
-    enum-told
+    (λ c. search needs)
     returns-3)

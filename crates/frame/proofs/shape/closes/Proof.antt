@@ -37,32 +37,11 @@ module _ (c : tie.After-word-at2) where
       ap₂ (λ (x y : ℕ). eqb x 1 && eqb y (3 + a .args .camera)) (c .before .kind-of .ensures ∙ ap kind (c .before .before .word-at .ensures))
       (c .word-at2 .ensures ∙ sym (getD-drop 2 (a .args .words .now) 0 0))
 
-word-at-requires : tie.Need-word-at-requires
-word-at-requires c κs = search needs
-
-kind-of-requires : tie.Need-kind-of-requires
-kind-of-requires c κs = search needs
-
-word-at-requires-2 : tie.Need-word-at-requires-2
-word-at-requires-2 c κs = search needs
-
-cast-observed : tie.Need-cast-observed
-cast-observed c = search needs
-
-add-observed : tie.Need-add-observed
-add-observed c = search needs
-
 returns : tie.Need-returns
 returns c =
     let a = c .before .before .before .before .before .args in
     refused (confirmed (a .sync) (a .words .now)) _ (soundPacket (take 32 (drop 2 (a .words .now)))) _
     (ap not (sym (looked (c .before))) ∙ c .if1 .taken)
-
-confirmed-requires : tie.Need-confirmed-requires
-confirmed-requires c κs = search needs
-
-sound-at-requires : tie.Need-sound-at-requires
-sound-at-requires c κs = search needs
 
 returns-2 : tie.Need-returns-2
 returns-2 c =
@@ -76,12 +55,12 @@ pub closes-spec : {M : Type 1} → statement M
 closes-spec =
     tie.close
     (tie.spec
-    word-at-requires
-    kind-of-requires
-    word-at-requires-2
-    cast-observed
-    add-observed
+    (λ c κs. search needs)
+    (λ c κs. search needs)
+    (λ c κs. search needs)
+    (λ c. search needs)
+    (λ c. search needs)
     returns
-    confirmed-requires
-    sound-at-requires
+    (λ c κs. search needs)
+    (λ c κs. search needs)
     returns-2)

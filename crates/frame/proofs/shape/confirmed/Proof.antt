@@ -5,15 +5,6 @@ use borrow.Author.Needs.{needs}
 use Rattle.frame.proofs.shape.confirmed.Statement.{statement}
 use Rattle.frame.proofs.shape.confirmed.Tie as tie
 
-check-requires : tie.Need-check-requires
-check-requires c κs = search needs
-
-enum-told : tie.Need-enum-told
-enum-told c = search needs
-
-enum-told-2 : tie.Need-enum-told-2
-enum-told-2 c = search needs
-
 returns : tie.Need-returns
 returns c = sym (check-yes _ (sym (c .before .before .check .ensures) ∙ c .enum-told .given .1))
 
@@ -21,4 +12,4 @@ returns-2 : tie.Need-returns-2
 returns-2 c = sym (check-no _ (sym (c .before .before .check .ensures) ∙ c .enum-told2 .given .1))
 
 pub confirmed-spec : {M : Type 1} → statement M
-confirmed-spec = tie.close (tie.spec check-requires enum-told enum-told-2 returns returns-2)
+confirmed-spec = tie.close (tie.spec (λ c κs. search needs) (λ c. search needs) (λ c. search needs) returns returns-2)

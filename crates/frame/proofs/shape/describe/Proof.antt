@@ -13,9 +13,6 @@ use Rattle.frame.proofs.shape.describe.Tie as tie
 shared-slice-read-camera-of : tie.Need-shared-slice-read-camera-of
 shared-slice-read-camera-of c = let l = long _ _ (c .before .before .pre .0) in omega arith
 
-camera-of-requires : tie.Need-camera-of-requires
-camera-of-requires c κs = search needs
-
 module _ (c : tie.Start) where
   within : c .args .reach .end ≤ length (c .args .words .now)
   within = let e : c .args .reach .end ≡ frameWords (c .args .sync) (c .args .words .now) = ap (λ (r : Reach). r .end) (c .pre .1) in omega (arith, ends _ _ (c .pre .0))
@@ -29,12 +26,6 @@ sub-closes c = within (c .before .before .before)
 part-closes-start : tie.Need-part-closes-start
 part-closes-start c = let w = within (c .before .before .before) in search needs
 
-part-closes-end : tie.Need-part-closes-end
-part-closes-end c = search needs
-
-closes-requires : tie.Need-closes-requires
-closes-requires c κs = search needs
-
 returns : tie.Need-returns
 returns c =
     let a = c .before .before .before .before .before in
@@ -45,10 +36,10 @@ describe-spec =
     tie.close
     (tie.spec
     shared-slice-read-camera-of
-    camera-of-requires
+    (λ c κs. search needs)
     mul-closes
     sub-closes
     part-closes-start
-    part-closes-end
-    closes-requires
+    (λ c. search needs)
+    (λ c κs. search needs)
     returns)

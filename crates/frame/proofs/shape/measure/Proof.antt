@@ -21,35 +21,11 @@ abbrev μ-loop : tie.MeasureT-loop
 shared-slice-read-last : tie.Need-shared-slice-read-last Inv-loop μ-loop
 shared-slice-read-last c = let l = long _ _ (c .before .before .pre) in omega arith
 
-size-of-requires : tie.Need-size-of-requires Inv-loop μ-loop
-size-of-requires c κs = search needs
-
 add-end : tie.Need-add-end Inv-loop μ-loop
 add-end c = omega (arith, c .before .size-of .ensures)
 
-data-of-requires : tie.Need-data-of-requires Inv-loop μ-loop
-data-of-requires c κs = search needs
-
 loop-holds : tie.Need-loop-holds Inv-loop μ-loop
 loop-holds c = let a = c .before .before .before .before .before in start (a .args .sync) (a .args .words .now) (a .pre) _ _ (ap (λ (n : ℕ). 2 + n) (c .before .before .size-of .ensures)) (c .data-of .ensures)
-
-whole-requires : tie.Need-whole-requires Inv-loop μ-loop
-whole-requires c κs = search needs
-
-mul-joins : tie.Need-mul-joins Inv-loop μ-loop
-mul-joins c = search needs
-
-sub-joins : tie.Need-sub-joins Inv-loop μ-loop
-sub-joins c = search needs
-
-part-joins-start : tie.Need-part-joins-start Inv-loop μ-loop
-part-joins-start c = search needs
-
-part-joins-end : tie.Need-part-joins-end Inv-loop μ-loop
-part-joins-end c = search needs
-
-joins-requires : tie.Need-joins-requires Inv-loop μ-loop
-joins-requires c κs = search needs
 
 -- the loop's test is whether a continuation joins
 module _ (c : tie.After-joins Inv-loop μ-loop) where
@@ -82,20 +58,11 @@ mul-last c = omega (arith, inside c .0)
 shared-slice-read-last-2 : tie.Need-shared-slice-read-last-2 Inv-loop μ-loop
 shared-slice-read-last-2 c = omega (arith, inside (c .before) .0)
 
-add-chunks : tie.Need-add-chunks Inv-loop μ-loop
-add-chunks c = search needs
-
-size-of-requires-2 : tie.Need-size-of-requires-2 Inv-loop μ-loop
-size-of-requires-2 c κs = search needs
-
 add-end-2 : tie.Need-add-end-2 Inv-loop μ-loop
 add-end-2 c = omega (arith, inside (c .before .before .before) .1, c .before .size-of2 .ensures)
 
 add-end-3 : tie.Need-add-end-3 Inv-loop μ-loop
 add-end-3 c = omega (arith, inside (c .before .before .before) .1, c .before .size-of2 .ensures)
-
-data-of-requires-2 : tie.Need-data-of-requires-2 Inv-loop μ-loop
-data-of-requires-2 c κs = search needs
 
 add-length : tie.Need-add-length Inv-loop μ-loop
 add-length c = omega (arith, inside (c .before .before .before .before) .1, c .data-of2 .ensures)
@@ -123,24 +90,24 @@ measure-spec =
     Inv-loop
     μ-loop
     shared-slice-read-last
-    size-of-requires
+    (λ c κs. search needs)
     add-end
-    data-of-requires
+    (λ c κs. search needs)
     loop-holds
-    whole-requires
-    mul-joins
-    sub-joins
-    part-joins-start
-    part-joins-end
-    joins-requires
+    (λ c κs. search needs)
+    (λ c. search needs)
+    (λ c. search needs)
+    (λ c. search needs)
+    (λ c. search needs)
+    (λ c κs. search needs)
     add-last
     mul-last
     shared-slice-read-last-2
-    add-chunks
-    size-of-requires-2
+    (λ c. search needs)
+    (λ c κs. search needs)
     add-end-2
     add-end-3
-    data-of-requires-2
+    (λ c κs. search needs)
     add-length
     loop-less
     loop-again

@@ -3,11 +3,8 @@ use borrow.Author.Needs.{needs}
 use Rattle.frame.proofs.shape.whole.Statement.{statement}
 use Rattle.frame.proofs.shape.whole.Tie as tie
 
-size-of-requires : tie.Need-size-of-requires
-size-of-requires c κs = search needs
-
 returns : tie.Need-returns
 returns c = cc
 
 pub whole-spec : {M : Type 1} → statement M
-whole-spec = tie.close (tie.spec size-of-requires returns)
+whole-spec = tie.close (tie.spec (λ c κs. search needs) returns)

@@ -7,11 +7,8 @@ use Rattle.health.proofs.Sound.{sound-verdict}
 use Rattle.health.proofs.packet.is_sound.Statement.{statement}
 use Rattle.health.proofs.packet.is_sound.Tie as tie
 
-read-verdict-requires : tie.Need-read-verdict-requires
-read-verdict-requires c κs = search needs
-
 returns : tie.Need-returns
 returns c = ap (λ (n : ℕ). eqb n 0) (c .read-verdict .ensures) ∙ sound-verdict _
 
 pub is-sound-spec : {M : Type 1} → statement M
-is-sound-spec = tie.close (tie.spec read-verdict-requires returns)
+is-sound-spec = tie.close (tie.spec (λ c κs. search needs) returns)

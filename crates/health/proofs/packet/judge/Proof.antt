@@ -7,18 +7,6 @@ use Rattle.health.proofs.packet.judge.Tie as tie
 returns : tie.Need-returns
 returns c = simp (ne-eqb _ _ (c .if1 .taken))
 
-word-at-requires : tie.Need-word-at-requires
-word-at-requires c κs = search needs
-
-packet-crc-requires : tie.Need-packet-crc-requires
-packet-crc-requires c κs = search needs
-
-cause-requires : tie.Need-cause-requires
-cause-requires c κs = search needs
-
-cause-requires-2 : tie.Need-cause-requires-2
-cause-requires-2 c κs = search needs
-
 returns-2 : tie.Need-returns-2
 returns-2 c = simp (eq-eqb _ _ (c .before .before .before .before .if1 .left)) (cc)
 
@@ -27,8 +15,8 @@ judge-spec =
     tie.close
     (tie.spec
     returns
-    word-at-requires
-    packet-crc-requires
-    cause-requires
-    cause-requires-2
+    (λ c κs. search needs)
+    (λ c κs. search needs)
+    (λ c κs. search needs)
+    (λ c κs. search needs)
     returns-2)

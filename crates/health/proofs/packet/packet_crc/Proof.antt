@@ -9,21 +9,6 @@ use Rattle.health.proofs.packet.packet_crc.Tie as tie
 slice-aggregate-words : tie.Need-slice-aggregate-words
 slice-aggregate-words c = omega (arith, length-take 1 (c .before .before .args .packet .now))
 
-words-requires : tie.Need-words-requires
-words-requires c κs = search needs
-
-sub-words : tie.Need-sub-words
-sub-words c = search needs
-
-part-words-start : tie.Need-part-words-start
-part-words-start c = search needs
-
-part-words-end : tie.Need-part-words-end
-part-words-end c = search needs
-
-words-requires-2 : tie.Need-words-requires-2
-words-requires-2 c κs = search needs
-
 returns : tie.Need-returns
 returns c = crc-parts _ (c .before .before .words .ensures) (c .words2 .ensures)
 
@@ -32,9 +17,9 @@ packet-crc-spec =
     tie.close
     (tie.spec
     slice-aggregate-words
-    words-requires
-    sub-words
-    part-words-start
-    part-words-end
-    words-requires-2
+    (λ c κs. search needs)
+    (λ c. search needs)
+    (λ c. search needs)
+    (λ c. search needs)
+    (λ c κs. search needs)
     returns)

@@ -16,24 +16,6 @@ returns c = sym (none-there (c .before .before .args .words .now) (c .before .be
 returns-2 : tie.Need-returns-2
 returns-2 c = sym (none-there (c .before .before .before .args .words .now) (c .before .before .before .args .at .0) (omega arith))
 
-add-end : tie.Need-add-end
-add-end c = search needs
-
-mul-is-sound : tie.Need-mul-is-sound
-mul-is-sound c = search needs
-
-sub-is-sound : tie.Need-sub-is-sound
-sub-is-sound c = search needs
-
-part-is-sound-start : tie.Need-part-is-sound-start
-part-is-sound-start c = search needs
-
-part-is-sound-end : tie.Need-part-is-sound-end
-part-is-sound-end c = search needs
-
-is-sound-requires : tie.Need-is-sound-requires
-is-sound-requires c κs = search needs
-
 returns-3 : tie.Need-returns-3
 returns-3 c =
     let start = c .before .before .before .before .before in
@@ -46,10 +28,10 @@ sound-at-spec =
     (tie.spec
     returns
     returns-2
-    add-end
-    mul-is-sound
-    sub-is-sound
-    part-is-sound-start
-    part-is-sound-end
-    is-sound-requires
+    (λ c. search needs)
+    (λ c. search needs)
+    (λ c. search needs)
+    (λ c. search needs)
+    (λ c. search needs)
+    (λ c κs. search needs)
     returns-3)

@@ -4,26 +4,8 @@ use Rattle.health.proofs.Wrote.{untouched, stored}
 use Rattle.health.proofs.packet.write_packet.Statement.{statement}
 use Rattle.health.proofs.packet.write_packet.Tie as tie
 
-plan-requires : tie.Need-plan-requires
-plan-requires c κs = search needs
-
 returns : tie.Need-returns
 returns c = (c .before .before .plan .ensures, untouched _ _ _ _ (c .before .before .plan .ensures) (c .if1 .taken))
-
-crc-of-requires : tie.Need-crc-of-requires
-crc-of-requires c κs = search needs
-
-slice-aggregate-put-words : tie.Need-slice-aggregate-put-words
-slice-aggregate-put-words c = search needs
-
-put-words-requires : tie.Need-put-words-requires
-put-words-requires c κs = search needs
-
-put-words-requires-2 : tie.Need-put-words-requires-2
-put-words-requires-2 c κs = search needs
-
-same-length : tie.Need-same-length
-same-length c = search needs
 
 returns-2 : tie.Need-returns-2
 returns-2 c =
@@ -37,11 +19,11 @@ pub write-packet-spec : {M : Type 1} → statement M
 write-packet-spec =
     tie.close
     (tie.spec
-    plan-requires
+    (λ c κs. search needs)
     returns
-    crc-of-requires
-    slice-aggregate-put-words
-    put-words-requires
-    put-words-requires-2
-    same-length
+    (λ c κs. search needs)
+    (λ c. search needs)
+    (λ c κs. search needs)
+    (λ c κs. search needs)
+    (λ c. search needs)
     returns-2)

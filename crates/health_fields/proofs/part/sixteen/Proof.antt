@@ -5,21 +5,6 @@ use Rattle.health.proofs.Parts.{fills}
 use Rattle.health_fields.proofs.part.sixteen.Statement.{statement}
 use Rattle.health_fields.proofs.part.sixteen.Tie as tie
 
-sub-put-words : tie.Need-sub-put-words
-sub-put-words c = search needs
-
-part-put-words-start : tie.Need-part-put-words-start
-part-put-words-start c = search needs
-
-part-put-words-end : tie.Need-part-put-words-end
-part-put-words-end c = search needs
-
-slice-aggregate-put-words : tie.Need-slice-aggregate-put-words
-slice-aggregate-put-words c = search needs
-
-put-words-requires : tie.Need-put-words-requires
-put-words-requires c κs = search needs
-
 returns : tie.Need-returns
 returns c = fills 16 (c .before .before .before .before .before .args .packet .now) _ (omega arith) (c .before .put-words .ensures)
 
@@ -27,9 +12,9 @@ pub sixteen-spec : {M : Type 1} → statement M
 sixteen-spec =
     tie.close
     (tie.spec
-    sub-put-words
-    part-put-words-start
-    part-put-words-end
-    slice-aggregate-put-words
-    put-words-requires
+    (λ c. search needs)
+    (λ c. search needs)
+    (λ c. search needs)
+    (λ c. search needs)
+    (λ c κs. search needs)
     returns)

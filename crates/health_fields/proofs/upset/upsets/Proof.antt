@@ -2,23 +2,14 @@
 use native.Mathlib.Omega.{arith}
 use borrow.Author.Needs.{needs}
 use Rattle.health.proofs.Answered.{refused, given}
-use Rattle.health_fields.specs.Upsets.{readUpsets}
+use Rattle.health_fields.specs.Upsets.{upsetsReply}
 use Rattle.health_fields.proofs.Judged.{upsets-last}
 use Rattle.health_fields.proofs.upset.upsets.Statement.{statement}
 use Rattle.health_fields.proofs.upset.upsets.Tie as tie
 
-upset-verdict-requires : tie.Need-upset-verdict-requires
-upset-verdict-requires c κs = search needs
-
 returns : tie.Need-returns
-unfolding readUpsets
+unfolding upsetsReply
 returns c = refused _ _ (c .before .upset-verdict .ensures) (c .if1 .taken)
-
-last-filled-requires : tie.Need-last-filled-requires
-last-filled-requires c κs = search needs
-
-word-at-requires : tie.Need-word-at-requires
-word-at-requires c κs = search needs
 
 oldest-first-requires : tie.Need-oldest-first-requires
 oldest-first-requires c κs =
@@ -27,7 +18,7 @@ oldest-first-requires c κs =
     omega (arith, last, c .before .last-filled .ensures)
 
 returns-2 : tie.Need-returns-2
-unfolding readUpsets
+unfolding upsetsReply
 returns-2 c =
     let tested = c .before .before .before in
     given _ _ (tested .before .upset-verdict .ensures) (tested .if1 .left) (cc)
@@ -36,9 +27,9 @@ pub upsets-spec : {M : Type 1} → statement M
 upsets-spec =
     tie.close
     (tie.spec
-    upset-verdict-requires
+    (λ c κs. search needs)
     returns
-    last-filled-requires
-    word-at-requires
+    (λ c κs. search needs)
+    (λ c κs. search needs)
     oldest-first-requires
     returns-2)

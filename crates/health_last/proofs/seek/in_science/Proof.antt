@@ -10,28 +10,19 @@ use Rattle.health_last.proofs.seek.in_science.Statement.{statement}
 use Rattle.health_last.proofs.seek.in_science.Tie as tie
 
 abbrev Inv-loop : tie.InvT-loop
-Inv-loop words sync kind last₀ at₀ last at = Sifted sync kind words at last
+Inv-loop words sync t last₀ at₀ last at = Sifted sync t words at last
 
 abbrev μ-loop : tie.MeasureT-loop
-μ-loop words sync kind last₀ at₀ last at = length words - at
+μ-loop words sync t last₀ at₀ last at = length words - at
 
 loop-holds : tie.Need-loop-holds Inv-loop μ-loop
 loop-holds c = start _ _ _
-
-next-requires : tie.Need-next-requires Inv-loop μ-loop
-next-requires c κs = search needs
-
-enum-known-found : tie.Need-enum-known-found Inv-loop μ-loop
-enum-known-found c = search needs
-
-enum-told : tie.Need-enum-told Inv-loop μ-loop
-enum-told c = search needs
 
 returns : tie.Need-returns Inv-loop μ-loop
 returns c =
     let l = c .before .before .before in
     let a = l .before .before .args in
-    done (a .sync) (a .kind) (a .words .now) (l .loop .inv) (ended (a .sync) (a .words .now) (l .loop .at) (sym (c .before .before .next .ensures) ∙ c .enum-told .given .1))
+    done (a .sync) (a .packet-type) (a .words .now) (l .loop .inv) (ended (a .sync) (a .words .now) (l .loop .at) (sym (c .before .before .next .ensures) ∙ c .enum-told .given .1))
 
 -- the chunk that was found
 step : (c : tie.After-known-told Inv-loop μ-loop)
@@ -50,14 +41,8 @@ ends c = omega (arith, c .before .size-of .ensures)
 in-chunk-requires : tie.Need-in-chunk-requires Inv-loop μ-loop
 in-chunk-requires c κs = step c .within
 
-latest-requires : tie.Need-latest-requires Inv-loop μ-loop
-latest-requires c κs = search needs
-
 add-at : tie.Need-add-at Inv-loop μ-loop
 add-at c = record { fits = omega (arith, step (c .before .before) .within) }
-
-size-of-requires : tie.Need-size-of-requires Inv-loop μ-loop
-size-of-requires c κs = search needs
 
 add-at-2 : tie.Need-add-at-2 Inv-loop μ-loop
 add-at-2 c = record { fits = omega (arith, step (c .before .before .before .before) .within, ends c) }
@@ -70,7 +55,7 @@ loop-again c =
     let k = c .before .before .before .before in
     let l = k .before .before .before .before in
     let a = l .before .before .args in
-    turn (a .sync) (a .kind) (a .words .now) (l .loop .inv) (step k) (c .before .before .before .in-chunk .ensures) (c .before .before .latest .ensures) (ends c)
+    turn (a .sync) (a .packet-type) (a .words .now) (l .loop .inv) (step k) (c .before .before .before .in-chunk .ensures) (c .before .before .latest .ensures) (ends c)
 
 pub in-science-spec : {M : Type 1} → statement M
 in-science-spec =
@@ -79,14 +64,14 @@ in-science-spec =
     Inv-loop
     μ-loop
     loop-holds
-    next-requires
-    enum-known-found
-    enum-told
+    (λ c κs. search needs)
+    (λ c. search needs)
+    (λ c. search needs)
     returns
     in-chunk-requires
-    latest-requires
+    (λ c κs. search needs)
     add-at
-    size-of-requires
+    (λ c κs. search needs)
     add-at-2
     loop-less
     loop-again)

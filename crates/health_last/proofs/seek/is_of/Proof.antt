@@ -5,22 +5,16 @@ use Rattle.health_last.proofs.Seeking.{other-type, own-type}
 use Rattle.health_last.proofs.seek.is_of.Statement.{statement}
 use Rattle.health_last.proofs.seek.is_of.Tie as tie
 
-word-at-requires : tie.Need-word-at-requires
-word-at-requires c κs = search needs
-
 returns : tie.Need-returns
 returns c =
     let start = c .before .before .before in
-    sym (other-type (start .args .kind) (start .args .words .now) (start .args .at) (λ e. c .if1 .taken (c .before .word-at .ensures ∙ e)))
-
-sound-at-requires : tie.Need-sound-at-requires
-sound-at-requires c κs = search needs
+    sym (other-type (start .args .packet-type) (start .args .words .now) (start .args .at) (λ e. c .if1 .taken (c .before .word-at .ensures ∙ e)))
 
 returns-2 : tie.Need-returns-2
 returns-2 c =
     let start = c .before .before .before .before in
     c .sound-at .ensures
-    ∙ sym (own-type (start .args .kind) (start .args .words .now) (start .args .at) (sym (c .before .before .word-at .ensures) ∙ c .before .if1 .left))
+    ∙ sym (own-type (start .args .packet-type) (start .args .words .now) (start .args .at) (sym (c .before .before .word-at .ensures) ∙ c .before .if1 .left))
 
 pub is-of-spec : {M : Type 1} → statement M
-is-of-spec = tie.close (tie.spec word-at-requires returns sound-at-requires returns-2)
+is-of-spec = tie.close (tie.spec (λ c κs. search needs) returns (λ c κs. search needs) returns-2)

@@ -17,18 +17,6 @@ abbrev μ-loop : tie.MeasureT-loop
 loop-holds : tie.Need-loop-holds Inv-loop μ-loop
 loop-holds c = tt
 
-next-requires : tie.Need-next-requires Inv-loop μ-loop
-next-requires c κs = search needs
-
-enum-known-found : tie.Need-enum-known-found Inv-loop μ-loop
-enum-known-found c = search needs
-
-enum-told : tie.Need-enum-told Inv-loop μ-loop
-enum-told c = search needs
-
-returns : tie.Need-returns Inv-loop μ-loop
-returns c = search needs
-
 -- the chunk that was found
 step : (c : tie.After-known-told Inv-loop μ-loop)
     → (let l = c .before .before .before .before in
@@ -44,17 +32,8 @@ ends : (c : tie.After-size-of Inv-loop μ-loop)
     → (let e = c .before .before .before .before .before .found .given .0 .0 in e .position .0 + 2 + c .size-of .result .0 ≡ past e)
 ends c = omega (arith, c .size-of .ensures)
 
-chunk-requires : tie.Need-chunk-requires Inv-loop μ-loop
-chunk-requires c κs = search needs
-
-returns-2 : tie.Need-returns-2 Inv-loop μ-loop
-returns-2 c = search needs
-
 add-at : tie.Need-add-at Inv-loop μ-loop
 add-at c = record { fits = omega (arith, step (c .before .before .before) .within) }
-
-size-of-requires : tie.Need-size-of-requires Inv-loop μ-loop
-size-of-requires c κs = search needs
 
 add-at-2 : tie.Need-add-at-2 Inv-loop μ-loop
 add-at-2 c = record { fits = omega (arith, step (c .before .before .before .before .before) .within, ends (c .before)) }
@@ -72,14 +51,14 @@ chunks-spec =
     Inv-loop
     μ-loop
     loop-holds
-    next-requires
-    enum-known-found
-    enum-told
-    returns
-    chunk-requires
-    returns-2
+    (λ c κs. search needs)
+    (λ c. search needs)
+    (λ c. search needs)
+    (λ c. search needs)
+    (λ c κs. search needs)
+    (λ c. search needs)
     add-at
-    size-of-requires
+    (λ c κs. search needs)
     add-at-2
     loop-less
     loop-again)

@@ -17,18 +17,6 @@ abbrev μ-loop : tie.MeasureT-loop
 loop-holds : tie.Need-loop-holds Inv-loop μ-loop
 loop-holds c = tt
 
-next-requires : tie.Need-next-requires Inv-loop μ-loop
-next-requires c κs = search needs
-
-enum-known-piece : tie.Need-enum-known-piece Inv-loop μ-loop
-enum-known-piece c = search needs
-
-frame-requires : tie.Need-frame-requires Inv-loop μ-loop
-frame-requires c κs = search needs
-
-returns : tie.Need-returns Inv-loop μ-loop
-returns c = search needs
-
 loop-less : tie.Need-loop-less Inv-loop μ-loop
 loop-less c =
     let p = c .before .before .before in
@@ -39,15 +27,6 @@ loop-less c =
 
 loop-again : tie.Need-loop-again Inv-loop μ-loop
 loop-again c = tt
-
-enum-known-piece-2 : tie.Need-enum-known-piece-2 Inv-loop μ-loop
-enum-known-piece-2 c = search needs
-
-stray-requires : tie.Need-stray-requires Inv-loop μ-loop
-stray-requires c κs = search needs
-
-returns-2 : tie.Need-returns-2 Inv-loop μ-loop
-returns-2 c = search needs
 
 loop-less-2 : tie.Need-loop-less-2 Inv-loop μ-loop
 loop-less-2 c =
@@ -60,12 +39,6 @@ loop-less-2 c =
 loop-again-2 : tie.Need-loop-again-2 Inv-loop μ-loop
 loop-again-2 c = tt
 
-enum-told : tie.Need-enum-told Inv-loop μ-loop
-enum-told c = search needs
-
-returns-3 : tie.Need-returns-3 Inv-loop μ-loop
-returns-3 c = search needs
-
 pub frames-and-strays-spec : {M : Type 1} → statement M
 frames-and-strays-spec =
     tie.close
@@ -73,16 +46,16 @@ frames-and-strays-spec =
     Inv-loop
     μ-loop
     loop-holds
-    next-requires
-    enum-known-piece
-    frame-requires
-    returns
+    (λ c κs. search needs)
+    (λ c. search needs)
+    (λ c κs. search needs)
+    (λ c. search needs)
     loop-less
     loop-again
-    enum-known-piece-2
-    stray-requires
-    returns-2
+    (λ c. search needs)
+    (λ c κs. search needs)
+    (λ c. search needs)
     loop-less-2
     loop-again-2
-    enum-told
-    returns-3)
+    (λ c. search needs)
+    (λ c. search needs))

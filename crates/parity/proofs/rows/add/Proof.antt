@@ -20,16 +20,10 @@ placed n r h = ap (λ (x : ℕ). x * 2 ^ (63 - r) % 2 ^ 64) (and-mask n 1) ∙ s
 cast-odd : tie.Need-cast-odd
 cast-odd c = fits-mask (ones (c .args .w)) 1 tt
 
-sub-t8 : tie.Need-sub-t8
-sub-t8 c = search needs
-
-shl-t9 : tie.Need-shl-t9
-shl-t9 c = search needs
-
 returns : tie.Need-returns
 returns c =
     let a = c .before .before .args in
     ap (λ (x : ℕ). sums (a .s .rows ⊕ x) (a .s .columns ⊕ a .w)) (placed (ones (a .w)) (a .r) (c .before .before .pre))
 
 pub add-spec : {M : Type 1} → statement M
-add-spec = tie.close (tie.spec cast-odd sub-t8 shl-t9 returns)
+add-spec = tie.close (tie.spec cast-odd (λ c. search needs) (λ c. search needs) returns)

@@ -19,15 +19,6 @@ abbrev μ-loop : tie.MeasureT-loop
 loop-holds : tie.Need-loop-holds Inv-loop μ-loop
 loop-holds c = compare-start _ _ _
 
-next-requires : tie.Need-next-requires Inv-loop μ-loop
-next-requires c κs = search needs
-
-enum-known-found : tie.Need-enum-known-found Inv-loop μ-loop
-enum-known-found c = search needs
-
-enum-told : tie.Need-enum-told Inv-loop μ-loop
-enum-told c = search needs
-
 returns : tie.Need-returns Inv-loop μ-loop
 returns c =
     let l = c .before .before .before in
@@ -45,9 +36,6 @@ step c =
     let a = l .before .before .before .args in
     stepped (a .sync) (a .recording .now) (l .loop .from) (c .before .found .given .0 .0) (sym (c .before .before .before .next .ensures) ∙ c .before .found .given .1)
 
-entry-stands-requires : tie.Need-entry-stands-requires Inv-loop μ-loop
-entry-stands-requires c κs = search needs
-
 returns-2 : tie.Need-returns-2 Inv-loop μ-loop
 returns-2 c =
     let k = c .before .before in
@@ -61,9 +49,6 @@ ends c = omega (arith, c .size-of .ensures)
 
 add-from : tie.Need-add-from Inv-loop μ-loop
 add-from c = record { fits = omega (arith, step (c .before .before .before) .within) }
-
-size-of-requires : tie.Need-size-of-requires Inv-loop μ-loop
-size-of-requires c κs = search needs
 
 add-from-2 : tie.Need-add-from-2 Inv-loop μ-loop
 add-from-2 c = record { fits = omega (arith, step (c .before .before .before .before .before) .within, ends (c .before)) }
@@ -94,14 +79,14 @@ agrees-spec =
     Inv-loop
     μ-loop
     loop-holds
-    next-requires
-    enum-known-found
-    enum-told
+    (λ c κs. search needs)
+    (λ c. search needs)
+    (λ c. search needs)
     returns
-    entry-stands-requires
+    (λ c κs. search needs)
     returns-2
     add-from
-    size-of-requires
+    (λ c κs. search needs)
     add-from-2
     add-at
     loop-less

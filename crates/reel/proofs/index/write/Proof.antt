@@ -18,15 +18,6 @@ abbrev μ-loop : tie.MeasureT-loop
 loop-holds : tie.Need-loop-holds Inv-loop μ-loop
 loop-holds c = index-start _ _ _ (c .before .before .pre .1)
 
-next-requires : tie.Need-next-requires Inv-loop μ-loop
-next-requires c κs = search needs
-
-enum-known-found : tie.Need-enum-known-found Inv-loop μ-loop
-enum-known-found c = search needs
-
-enum-told : tie.Need-enum-told Inv-loop μ-loop
-enum-told c = search needs
-
 same-length : tie.Need-same-length Inv-loop μ-loop
 same-length c = c .before .before .before .loop .inv .long
 
@@ -64,9 +55,6 @@ ends c = omega (arith, c .size-of .ensures)
 add-from : tie.Need-add-from Inv-loop μ-loop
 add-from c = record { fits = omega (arith, step (c .before .before .before .before .before) .within) }
 
-size-of-requires : tie.Need-size-of-requires Inv-loop μ-loop
-size-of-requires c κs = search needs
-
 add-from-2 : tie.Need-add-from-2 Inv-loop μ-loop
 add-from-2 c = record { fits = omega (arith, step (c .before .before .before .before .before .before .before) .within, ends (c .before)) }
 
@@ -90,16 +78,16 @@ write-spec =
     Inv-loop
     μ-loop
     loop-holds
-    next-requires
-    enum-known-found
-    enum-told
+    (λ c κs. search needs)
+    (λ c. search needs)
+    (λ c. search needs)
     same-length
     returns
     mul-put-entry
     add-put-entry
     put-entry-requires
     add-from
-    size-of-requires
+    (λ c κs. search needs)
     add-from-2
     add-count
     loop-less

@@ -1,0 +1,47 @@
+// The outline of a recording: the number of image runs and of health runs.
+mod run;
+
+use base::Words;
+use base::limit;
+use base::refusal;
+use chunk::Found;
+use chunk::header;
+use chunk::search;
+ghost use mathlib.Core.Path.{_≡_};
+ghost use Rattle.chunk_outline.specs.Outline.{outlineReply};
+
+// The reply: the number of runs of each kind.
+pub struct Runs {
+    pub refusal: u8,
+    pub image: usize,
+    pub health: usize,
+}
+
+// Counts the runs of a recording: the kind of its first chunk begins, and each kind hands the rest on.
+pub fn outline(recording: &[u16], sync: u16) -> Runs
+    ensures { λ r. ⌜ r ≡ outlineReply sync (now (recording .entry)) ⌝ }
+{
+    if limit::RECORDING < recording.len() {
+        return Runs {
+            refusal: refusal::LENGTH,
+            image: 0,
+            health: 0,
+        };
+    }
+    let mut image = 0;
+    let mut health = 0;
+    let found = search::next(recording, sync, Words(0));
+    if let Found::Chunk(first) = found {
+        let begins = first.position.0;
+        if header::kind_of(first.header) == run::IMAGE {
+            run::image_run(&recording, sync, begins, &mut image, &mut health);
+        } else {
+            run::health_run(&recording, sync, begins, &mut image, &mut health);
+        }
+    }
+    Runs {
+        refusal: 0,
+        image: image,
+        health: health,
+    }
+}

@@ -1,0 +1,54 @@
+// What the register is filled with: the reply, and the entries one after the other.
+use base::Words;
+use base::refusal;
+use chunk::Entry;
+use chunk::Found;
+use chunk::Survey;
+use chunk::header;
+use chunk::reading;
+use chunk::search;
+ghost use mathlib.Core.Path.{_≡_};
+ghost use Rattle.chunk_register.specs.Register.{listReply};
+ghost use Rattle.chunk_register.specs.Finder.{stepFrom};
+
+// A chunk's entry, and the place past the chunk.
+pub struct Step {
+    pub entry: Entry,
+    pub end: usize,
+}
+
+// The reply for a register of so many entries. A recording that is too long has no chunks to make room for.
+pub fn look(recording: &[u16], sync: u16, entries: usize) -> Survey
+    ensures { λ r. ⌜ r ≡ listReply sync (now (recording .entry)) entries ⌝ }
+{
+    let survey = reading::survey(recording, sync);
+    if entries < survey.chunks {
+        return Survey {
+            refusal: refusal::ROOM,
+            chunks: 0,
+            skipped: Words(0),
+        };
+    }
+    survey
+}
+
+// The next chunk at or after a place; zeros where none is left.
+pub fn step_from(recording: &[u16], sync: u16, at: usize) -> Step
+    ensures { λ r. ⌜ r ≡ stepFrom sync (now (recording .entry)) at ⌝ }
+{
+    let found = search::next(recording, sync, Words(at));
+    let Found::Chunk(entry) = found else {
+        return Step {
+            entry: Entry {
+                position: Words(0),
+                header: 0,
+            },
+            end: 0,
+        };
+    };
+    let begins = entry.position.0;
+    Step {
+        entry: entry,
+        end: begins + header::HEADER + header::size_of(entry.header).0,
+    }
+}
