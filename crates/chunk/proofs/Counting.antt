@@ -6,7 +6,7 @@ use native.Mathlib.Omega.{arith}
 use lib.ListN.{length, drop}
 use Rattle.chunk.specs.declared.Entry.{Entry}
 use Rattle.chunk.specs.Reading.{listed, reading, skippedFrom, skipped}
-use Rattle.chunk.proofs.Steps.{Next, Last, past}
+use Rattle.chunk.proofs.Steps.{Next, Last}
 
 pub record Counted (sync : ℕ) (ws : List ℕ) (chunks noise at : ℕ) : Type 0 where
   pub within : at ≤ length ws
@@ -20,18 +20,14 @@ module _ (sync : ℕ) (ws : List ℕ) where
   start = record { within = omega arith; few = omega arith; less = omega arith; many = omega arith; missed = omega arith }
 
   module _ (chunks noise at : ℕ) (c : Counted sync ws chunks noise at) where
-    pub turn : (e : Entry) → Next sync ws at e → (end : ℕ) → end ≡ past e → Counted sync ws (chunks + 1) (noise + (e .position .0 - at)) end
-    turn e s end n =
+    pub turn : (e : Entry) (n : ℕ) → Next sync ws at e n → Counted sync ws (chunks + 1) (noise + (e .position .0 - at)) n
+    turn e n s =
         record {
-          within = omega (arith, s .within);
-          few = omega (arith, c .few, s .ahead);
-          less = omega (arith, c .less, s .ahead);
-          many =
-              ap (λ (m : ℕ). chunks + 1 + length (listed sync m 0 (drop m ws))) n
-              ∙ omega (arith, c .many, ap length (s .lists));
-          missed =
-              ap (λ (m : ℕ). noise + (e .position .0 - at) + skippedFrom sync 0 (drop m ws)) n
-              ∙ omega (arith, c .missed, s .skips);
+          within = s .within;
+          few = omega (arith, c .few, s .ahead, s .end);
+          less = omega (arith, c .less, s .ahead, s .end);
+          many = omega (arith, c .many, ap length (s .lists));
+          missed = omega (arith, c .missed, s .skips);
         }
 
     pub all : Last sync ws at → chunks ≡ length (reading sync ws)

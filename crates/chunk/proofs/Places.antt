@@ -10,17 +10,17 @@ use borrow.Author.Tests.{eqb-true, eqb-false, ltb-true, ltb-false}
 use Rattle.chunk.specs.declared.Entry.{Entry}
 use Rattle.chunk.specs.Header.{confirmed}
 use Rattle.chunk.specs.Reading.{leftAt, listedAt}
-use Rattle.chunk.proofs.Steps.{Next, past, listed-at-yes, listed-at-no, listed-at-covered}
+use Rattle.chunk.proofs.Steps.{Next, listed-at-yes, listed-at-no, listed-at-covered}
 
-module _ (sync : ℕ) (ws : List ℕ) (p : ℕ) (e : Entry) (s : Next sync ws p e) (i : ℕ) (z : leftAt sync 0 ws p ≡ 0) where
+module _ (sync : ℕ) (ws : List ℕ) (p : ℕ) (e : Entry) (n : ℕ) (s : Next sync ws p e n) (i : ℕ) (z : leftAt sync 0 ws p ≡ 0) where
   -- up to the next chunk, its own place alone
   pub before : p ≤ i → i ≤ e .position .0 → eqb i (e .position .0) ≡ listedAt sync ws i
   before a b = by-place (eqb i (e .position .0)) refl
     where
       by-place : (t : Bool) → eqb i (e .position .0) ≡ t → t ≡ listedAt sync ws i
       by-place true q =
-          let n : i ≡ e .position .0 = eqb-true i (e .position .0) q in
-          sym (listed-at-yes sync i ws (s .free z i a b) (ap (λ (m : ℕ). confirmed sync (drop m ws)) n ∙ s .confirms))
+          let here : i ≡ e .position .0 = eqb-true i (e .position .0) q in
+          sym (listed-at-yes sync i ws (s .free z i a b) (ap (λ (m : ℕ). confirmed sync (drop m ws)) here ∙ s .confirms))
       by-place false q = sym (listed-at-no sync i ws (s .noise i a (less (ltb i (e .position .0)) refl)))
         where
           less : (t : Bool) → ltb i (e .position .0) ≡ t → i < e .position .0
@@ -28,9 +28,9 @@ module _ (sync : ℕ) (ws : List ℕ) (p : ℕ) (e : Entry) (s : Next sync ws p 
           less false l = absurd (eqb-false i (e .position .0) q (omega (arith, ltb-false i (e .position .0) l)))
 
   -- inside the chunk, nowhere
-  pub within : e .position .0 < i → i < past e → listedAt sync ws i ≡ false
+  pub within : e .position .0 < i → i < n → listedAt sync ws i ≡ false
   within a b = listed-at-covered sync i ws (omega (arith, s .inside z i a (omega arith)))
 
 -- at its end no chunk is in hand
-pub after : (sync : ℕ) (ws : List ℕ) (p : ℕ) (e : Entry) → Next sync ws p e → leftAt sync 0 ws p ≡ 0 → leftAt sync 0 ws (past e) ≡ 0
-after sync ws p e s z = s .inside z (past e) (omega arith) (omega arith) ∙ omega arith
+pub after : (sync : ℕ) (ws : List ℕ) (p : ℕ) (e : Entry) (n : ℕ) → Next sync ws p e n → leftAt sync 0 ws p ≡ 0 → leftAt sync 0 ws n ≡ 0
+after sync ws p e n s z = s .inside z n (omega (arith, s .end)) (omega arith) ∙ omega arith

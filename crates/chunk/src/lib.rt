@@ -18,9 +18,9 @@ pub enum Check {
     Confirmed,
 }
 
-// What a search finds: the next chunk, or the end of the recording.
+// What a search finds: the next chunk and the place past it, or the end of the recording.
 pub enum Found {
-    Chunk(Entry),
+    Chunk(Entry, Words),
     End,
 }
 

@@ -24,7 +24,7 @@ pub fn count(words: &[u16], sync: u16) -> Survey
     let mut at: usize = 0;
     loop {
         let found = search::next(words, sync, Words(at));
-        let Found::Chunk(entry) = found else {
+        let Found::Chunk(entry, next) = found else {
             let all = skipped + (words.len() - at);
             return Survey {
                 refusal: 0,
@@ -35,7 +35,7 @@ pub fn count(words: &[u16], sync: u16) -> Survey
         let begins = entry.position.0;
         chunks += 1;
         skipped += begins - at;
-        at = begins + header::HEADER + header::size_of(entry.header).0;
+        at = next.0;
     }
 }
 
@@ -67,18 +67,17 @@ pub fn is_listed(words: &[u16], sync: u16, place: Words) -> bool
     let mut at = 0;
     loop {
         let found = search::next(words, sync, Words(at));
-        let Found::Chunk(entry) = found else {
+        let Found::Chunk(entry, next) = found else {
             return false;
         };
         let begins = entry.position.0;
         if asked <= begins {
             return asked == begins;
         }
-        let ends = begins + header::HEADER + header::size_of(entry.header).0;
-        if asked < ends {
+        at = next.0;
+        if asked < at {
             return false;
         }
-        at = ends;
     }
 }
 

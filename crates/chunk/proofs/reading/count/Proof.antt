@@ -5,7 +5,7 @@ use native.Mathlib.Omega.{arith}
 use lib.ListN.{length}
 use borrow.Author.Needs.{needs}
 use Rattle.chunk.specs.Replies.{surveyed}
-use Rattle.chunk.proofs.Steps.{Next, Last, past, stepped, ended}
+use Rattle.chunk.proofs.Steps.{Next, Last, stepped, ended}
 use Rattle.chunk.proofs.Counting.{Counted, start, turn, all, rest}
 use Rattle.chunk.proofs.reading.count.Statement.{statement}
 use Rattle.chunk.proofs.reading.count.Tie as tie
@@ -19,15 +19,11 @@ abbrev μ-loop : tie.MeasureT-loop
 -- the chunk that was found
 step : (c : tie.After-known-told Inv-loop μ-loop)
     → (let l = c .before .before .before .before in
-    Next (l .before .before .args .sync) (l .before .before .args .words .now) (l .loop .at) (c .before .found .given .0 .0))
+    Next (l .before .before .args .sync) (l .before .before .args .words .now) (l .loop .at) (c .before .found .given .0 .0) (c .before .found .given .0 .1 .0 .0))
 step c =
     let l = c .before .before .before .before in
-    stepped (l .before .before .args .sync) (l .before .before .args .words .now) (l .loop .at) (c .before .found .given .0 .0)
+    stepped (l .before .before .args .sync) (l .before .before .args .words .now) (l .loop .at) (c .before .found .given .0 .0) (c .before .found .given .0 .1 .0)
     (sym (c .before .before .before .next .ensures) ∙ c .before .found .given .1)
-
--- the code's sum is the place past it
-ends : (c : tie.After-size-of Inv-loop μ-loop) → (let e = c .before .before .found .given .0 .0 in e .position .0 + 2 + c .size-of .result .0 ≡ past e)
-ends c = omega (arith, c .size-of .ensures)
 
 -- that there was none
 last : (c : tie.After-enum-told Inv-loop μ-loop)
@@ -48,27 +44,19 @@ returns c =
     ap₂ (surveyed 0) (all (a .sync) (a .words .now) _ _ _ (l .loop .inv) (last c)) (rest (a .sync) (a .words .now) _ _ _ (l .loop .inv) (last c))
 
 add-chunks : tie.Need-add-chunks Inv-loop μ-loop
-add-chunks c = record { fits = omega (arith, step c .ahead, step c .within) }
+add-chunks c = record { fits = omega (arith, step c .ahead, step c .within, step c .end) }
 
 sub-skipped : tie.Need-sub-skipped Inv-loop μ-loop
 sub-skipped c = omega (arith, step c .ahead)
 
 add-skipped : tie.Need-add-skipped Inv-loop μ-loop
-add-skipped c = record { fits = omega (arith, step c .ahead, step c .within) }
-
-add-at : tie.Need-add-at Inv-loop μ-loop
-add-at c = record { fits = omega (arith, step c .within) }
-
-add-at-2 : tie.Need-add-at-2 Inv-loop μ-loop
-add-at-2 c = record { fits = omega (arith, step (c .before .before) .within, ends (c .before)) }
+add-skipped c = record { fits = omega (arith, step c .ahead, step c .within, step c .end) }
 
 loop-less : tie.Need-loop-less Inv-loop μ-loop
-loop-less c = omega (arith, ends (c .before), step (c .before .before) .ahead, step (c .before .before) .within)
+loop-less c = omega (arith, step c .ahead, step c .within, step c .end)
 
 loop-again : tie.Need-loop-again Inv-loop μ-loop
-loop-again c =
-    let k = c .before .before in
-    turn _ _ _ _ _ (k .before .before .before .before .loop .inv) _ (step k) _ (ends (c .before))
+loop-again c = turn _ _ _ _ _ (c .before .before .before .before .loop .inv) _ _ (step c)
 
 pub count-spec : {M : Type 1} → statement M
 count-spec =
@@ -86,8 +74,5 @@ count-spec =
     add-chunks
     sub-skipped
     add-skipped
-    add-at
-    (λ c κs. search needs)
-    add-at-2
     loop-less
     loop-again)

@@ -5,7 +5,7 @@ use native.Mathlib.Omega.{arith}
 use lib.ListN.{length}
 use borrow.Author.Needs.{needs}
 use Rattle.chunk.specs.Reading.{leftAt}
-use Rattle.chunk.proofs.Steps.{Next, stepped, ended, past, listed-at-no}
+use Rattle.chunk.proofs.Steps.{Next, stepped, ended, listed-at-no}
 use Rattle.chunk.proofs.Places.{before, within, after}
 use Rattle.chunk.proofs.reading.is_listed.Statement.{statement}
 use Rattle.chunk.proofs.reading.is_listed.Tie as tie
@@ -23,16 +23,11 @@ loop-holds c = (refl, omega arith)
 -- the chunk that was found
 step : (c : tie.After-known-told Inv-loop μ-loop)
     → (let l = c .before .before .before .before in
-    Next (l .before .before .args .sync) (l .before .before .args .words .now) (l .loop .at) (c .before .found .given .0 .0))
+    Next (l .before .before .args .sync) (l .before .before .args .words .now) (l .loop .at) (c .before .found .given .0 .0) (c .before .found .given .0 .1 .0 .0))
 step c =
     let l = c .before .before .before .before in
-    stepped (l .before .before .args .sync) (l .before .before .args .words .now) (l .loop .at) (c .before .found .given .0 .0)
+    stepped (l .before .before .args .sync) (l .before .before .args .words .now) (l .loop .at) (c .before .found .given .0 .0) (c .before .found .given .0 .1 .0)
     (sym (c .before .before .before .next .ensures) ∙ c .before .found .given .1)
-
--- the code's sum is the place past it
-ends : (c : tie.After-size-of Inv-loop μ-loop)
-    → (let e = c .before .before .before .found .given .0 .0 in e .position .0 + 2 + c .size-of .result .0 ≡ past e)
-ends c = omega (arith, c .size-of .ensures)
 
 returns : tie.Need-returns Inv-loop μ-loop
 returns c =
@@ -45,30 +40,24 @@ returns-2 : tie.Need-returns-2 Inv-loop μ-loop
 returns-2 c =
     let l = c .before .before .before .before .before in
     let a = l .before .before .args in
-    before (a .sync) (a .words .now) (l .loop .at) _ (step (c .before)) (a .place .0) (l .loop .inv .0) (l .loop .inv .1) (omega arith)
-
-add-ends : tie.Need-add-ends Inv-loop μ-loop
-add-ends c = record { fits = omega (arith, step (c .before) .within) }
-
-add-ends-2 : tie.Need-add-ends-2 Inv-loop μ-loop
-add-ends-2 c = record { fits = omega (arith, step (c .before .before .before) .within, ends (c .before)) }
+    before (a .sync) (a .words .now) (l .loop .at) _ _ (step (c .before)) (a .place .0) (l .loop .inv .0) (l .loop .inv .1) (omega arith)
 
 returns-3 : tie.Need-returns-3 Inv-loop μ-loop
 returns-3 c =
-    let k = c .before .before .before .before in
+    let k = c .before .before in
     let l = k .before .before .before .before in
     let a = l .before .before .args in
-    sym (within (a .sync) (a .words .now) (l .loop .at) _ (step k) (a .place .0) (l .loop .inv .0) (c .before .before .before .if1 .left) (omega (arith, ends (c .before .before))))
+    sym (within (a .sync) (a .words .now) (l .loop .at) _ _ (step k) (a .place .0) (l .loop .inv .0) (c .before .if1 .left) (c .if2 .taken))
 
 loop-less : tie.Need-loop-less Inv-loop μ-loop
-loop-less c = omega (arith, ends (c .before .before), step (c .before .before .before .before) .ahead, step (c .before .before .before .before) .within)
+loop-less c = let k = c .before .before in omega (arith, step k .ahead, step k .within, step k .end)
 
 loop-again : tie.Need-loop-again Inv-loop μ-loop
 loop-again c =
-    let k = c .before .before .before .before in
+    let k = c .before .before in
     let l = k .before .before .before .before in
     let a = l .before .before .args in
-    (ap (λ (n : ℕ). leftAt (a .sync) 0 (a .words .now) n) (ends (c .before .before)) ∙ after (a .sync) (a .words .now) (l .loop .at) _ (step k) (l .loop .inv .0), c .if2 .left)
+    (after (a .sync) (a .words .now) (l .loop .at) _ _ (step k) (l .loop .inv .0), c .if2 .left)
 
 pub is-listed-spec : {M : Type 1} → statement M
 is-listed-spec =
@@ -82,9 +71,6 @@ is-listed-spec =
     (λ c. search needs)
     returns
     returns-2
-    add-ends
-    (λ c κs. search needs)
-    add-ends-2
     returns-3
     loop-less
     loop-again)
