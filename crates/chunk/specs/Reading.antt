@@ -1,4 +1,4 @@
--- Document 01, "Chunks": the reading of a recording, by place. Every definition goes through the words one at a time; `left` is the number of words
+-- FORMAT, "Chunks": the reading of a recording, by place. Every definition goes through the words one at a time; `left` is the number of words
 -- ahead that belong to a chunk which is listed already.
 use Prim.Native.Nat.{ℕ, zero, suc, _+_}
 use mathlib.Core.Bool.{Bool, true, false, cond, _&&_}

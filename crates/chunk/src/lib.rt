@@ -1,8 +1,6 @@
-// Chunks: the header, the search for the next one, the reading of a recording, and the writer.
+// Chunks: the header, and the search for the next one.
 pub mod header;
-pub mod reading;
 pub mod search;
-pub mod write;
 
 use base::Words;
 
@@ -22,19 +20,4 @@ pub enum Check {
 pub enum Found {
     Chunk(Entry, Words),
     End,
-}
-
-// What a survey of a recording answers.
-pub struct Survey {
-    pub refusal: u8,
-    pub chunks: usize,
-    pub skipped: Words,
-}
-
-// What stands in the header of a listed chunk.
-pub struct Heading {
-    pub refusal: u8,
-    pub kind: u16,
-    pub camera: u16,
-    pub size: Words,
 }
