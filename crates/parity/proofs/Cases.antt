@@ -15,7 +15,7 @@ use Rattle.parity.specs.Unit.{Finding, sound, parityBit, dataBit, neithe
 use Rattle.parity.specs.Sums.{differences, answerOf}
 use Rattle.parity.proofs.Counted.{ones-sum, leading-first}
 use Rattle.parity.proofs.Differences.{row-bits, column-bits}
-use Rattle.parity.proofs.Spot.{and-both}
+use Rattle.base.proofs.Booleans.{and-right}
 
 module _ (R C row column k : ℕ) where
   abbrev answered : Judged
@@ -78,7 +78,7 @@ within R C row column k =
     (either k (eqb R 1 && eqb C 0) (parityBit (row / 16) (15 - row % 16)) _ (λ _. tt)
     (either k (eqb R 0 && eqb C 1) (parityBit (4 + column / 16) (15 - column % 16)) _ (λ _. tt)
     (either k (eqb R 1 && eqb C 1 && ltb word k) (dataBit word (15 - column % 16)) neither
-    (λ e. (ltb-true word k (and-both (eqb R 1 && eqb C 1) (ltb word k) e .1), omega arith)) tt)))
+    (λ e. (ltb-true word k (and-right (eqb R 1 && eqb C 1) (ltb word k) e), omega arith)) tt)))
 
 pub data-within : (u : List ℕ) → Within (length u - 8) (finding u)
 unfolding finding

@@ -3,10 +3,7 @@ pub mod Words
 pub mod Counted
 pub mod ByRows
 pub mod Differences
-pub mod Spot
 pub mod Cases
 pub mod Judging
 pub mod Checking
 pub mod Writing
-pub mod Flips
-pub mod SingleFlip

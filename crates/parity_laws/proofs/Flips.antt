@@ -13,12 +13,12 @@ use lib.Seq.{getD-set-same, getD-set-other, getD-drop}
 use borrow.Author.Tests.{eq-eqb, ne-eqb, eqb-true, eqb-false, ltb-true, ltb-false}
 use Rattle.base.specs.Xor.{_⊕_}
 use Rattle.base.proofs.XorLaws.{xor-swap}
 use Rattle.parity.specs.Parity.{xorAll, number, bitOf, bitFrom, rowParity, columnParity, rowWord, columnWord, parityWords}
 use Rattle.parity.specs.Unit.{unitOf, flipped, rowDiffers, columnDiffers}
 use Rattle.parity.proofs.Folds.{xor-cong, xor-add}
 use Rattle.parity.proofs.Words.{digit, bit-linear, number-digit, from-digit}
 use Rattle.parity.proofs.ByRows.{row-lt, column-lt}
-use Rattle.parity.proofs.Spot.{one, spot, same-test}
+use Rattle.parity_laws.proofs.Spot.{one, spot, same-test}
 
 -- ---- a bit of a power of two
 
@@ -46,8 +46,8 @@ power-bit b q = by-test (ltb b q) refl
 -- ---- one bit flipped, read bit by bit
 
 -- whether bit b of word i is bit n of the words from word w on
-abbrev pub hit : ℕ → ℕ → ℕ → ℕ → Bool
-hit i b w n = eqb i (w + n / 16) && eqb b (15 - n % 16)
+abbrev pub sameBit : ℕ → ℕ → ℕ → ℕ → Bool
+sameBit i b w n = eqb i (w + n / 16) && eqb b (15 - n % 16)
 
 module _ (u : List ℕ) (i b : ℕ) (h : i < length u) where
   flip-word : (j : ℕ) → getD (flipped u i b) j 0 ≡ getD u j 0 ⊕ cond (eqb i j) (2 ^ b) 0
@@ -69,7 +69,7 @@ module _ (u : List ℕ) (i b : ℕ) (h : i < length u) where
       there true = power-bit b q
       there false = ap (λ (x : ℕ). x % 2) (zero-div (2 ^ q))
 
-  flip-from : (w n : ℕ) → bitFrom (flipped u i b) w n ≡ bitFrom u w n ⊕ one (hit i b w n)
+  flip-from : (w n : ℕ) → bitFrom (flipped u i b) w n ≡ bitFrom u w n ⊕ one (sameBit i b w n)
   unfolding bitFrom
   flip-from w n = flip-bit (w + n / 16) (15 - n % 16)
 
@@ -81,31 +81,31 @@ from-drop m u w n =
 -- ---- what the flip does to rows and columns
 
 abbrev pub rowFlip : ℕ → ℕ → ℕ → ℕ
-rowFlip i b r = one (hit i b 0 r) ⊕ xorAll 64 (λ c. one (hit i b (8 + 4 * r) c))
+rowFlip i b r = one (sameBit i b 0 r) ⊕ xorAll 64 (λ c. one (sameBit i b (8 + 4 * r) c))
 
 abbrev pub columnFlip : ℕ → ℕ → ℕ → ℕ
-columnFlip i b c = one (hit i b 4 c) ⊕ xorAll 64 (λ r. one (hit i b (8 + 4 * r) c))
+columnFlip i b c = one (sameBit i b 4 c) ⊕ xorAll 64 (λ r. one (sameBit i b (8 + 4 * r) c))
 
 module _ (u : List ℕ) (i b : ℕ) (h : i < length u) where
-  flip-data : (w n : ℕ) → bitFrom (drop 8 (flipped u i b)) w n ≡ bitFrom (drop 8 u) w n ⊕ one (hit i b (8 + w) n)
+  flip-data : (w n : ℕ) → bitFrom (drop 8 (flipped u i b)) w n ≡ bitFrom (drop 8 u) w n ⊕ one (sameBit i b (8 + w) n)
   flip-data w n =
-      from-drop 8 (flipped u i b) w n ∙ flip-from u i b h (8 + w) n ∙ ap (λ (x : ℕ). x ⊕ one (hit i b (8 + w) n)) (sym (from-drop 8 u w n))
+      from-drop 8 (flipped u i b) w n ∙ flip-from u i b h (8 + w) n ∙ ap (λ (x : ℕ). x ⊕ one (sameBit i b (8 + w) n)) (sym (from-drop 8 u w n))
 
   pub flip-row : (r : ℕ) → rowDiffers (flipped u i b) r ≡ rowDiffers u r ⊕ rowFlip i b r
   unfolding rowDiffers rowParity
   flip-row r =
       let f : ℕ → ℕ = bitFrom (drop 8 u) (4 * r) in
-      let g : ℕ → ℕ = λ c. one (hit i b (8 + 4 * r) c) in
+      let g : ℕ → ℕ = λ c. one (sameBit i b (8 + 4 * r) c) in
       ap₂ _⊕_ (flip-from u i b h 0 r) (xor-cong 64 (λ c _. flip-data (4 * r) c) ∙ xor-add 64 f g)
-      ∙ xor-swap (bitFrom u 0 r) (one (hit i b 0 r)) (xorAll 64 f) (xorAll 64 g)
+      ∙ xor-swap (bitFrom u 0 r) (one (sameBit i b 0 r)) (xorAll 64 f) (xorAll 64 g)
 
   pub flip-column : (c : ℕ) → columnDiffers (flipped u i b) c ≡ columnDiffers u c ⊕ columnFlip i b c
   unfolding columnDiffers columnParity
   flip-column c =
       let f : ℕ → ℕ = λ r. bitFrom (drop 8 u) (4 * r) c in
-      let g : ℕ → ℕ = λ r. one (hit i b (8 + 4 * r) c) in
+      let g : ℕ → ℕ = λ r. one (sameBit i b (8 + 4 * r) c) in
       ap₂ _⊕_ (flip-from u i b h 4 c) (xor-cong 64 (λ r _. flip-data (4 * r) c) ∙ xor-add 64 f g)
-      ∙ xor-swap (bitFrom u 4 c) (one (hit i b 4 c)) (xorAll 64 f) (xorAll 64 g)
+      ∙ xor-swap (bitFrom u 4 c) (one (sameBit i b 4 c)) (xorAll 64 f) (xorAll 64 g)
 
 -- ---- the parity words hold the parity: in a unit as it is written nothing differs
 
