@@ -1,8 +1,4 @@
-pub mod Folds
-pub mod Words
 pub mod Counted
-pub mod ByRows
-pub mod Differences
 pub mod Cases
 pub mod Judging
 pub mod Checking

@@ -6,18 +6,20 @@ use Prim.Native.Nat.{ℕ, zero, suc, _+_, _-_, _*_, _/_, _%_, _^_, _<_, _≤_}
 use native.Mathlib.Nat.{add-assoc, mul-comm, zero-div, div-eq-of-lt, mul-mod-left, pow-suc}
 use native.Mathlib.Omega.{arith}
 use lib.Dec.{eqb, ltb}
-use lib.Pow.{pow-add, pow-lt, shl-shr}
+use lib.Arith.{digits-mod}
+use lib.Pow.{pow-add, pow-lt, shl-shr, high}
 use lib.Bits.{xor-zero-r, xor-self}
 use lib.ListN.{length, getD, drop}
 use lib.Seq.{getD-set-same, getD-set-other, getD-drop}
 use borrow.Author.Tests.{eq-eqb, ne-eqb, eqb-true, eqb-false, ltb-true, ltb-false}
 use Rattle.base.specs.Xor.{_⊕_}
 use Rattle.base.proofs.XorLaws.{xor-swap}
-use Rattle.parity.specs.Parity.{xorAll, number, bitOf, bitFrom, rowParity, columnParity, rowWord, columnWord, parityWords}
+use Rattle.base.specs.Number.{bitOf}
+use Rattle.parity_rows.specs.Parity.{xorAll, number, bitFrom, rowParity, columnParity, rowWord, columnWord, parityWords}
 use Rattle.parity.specs.Unit.{unitOf, flipped, rowDiffers, columnDiffers}
-use Rattle.parity.proofs.Folds.{xor-cong, xor-add}
-use Rattle.parity.proofs.Words.{digit, bit-linear, number-digit, from-digit}
-use Rattle.parity.proofs.ByRows.{row-lt, column-lt}
+use Rattle.parity_rows.proofs.Folds.{xor-cong, xor-add, number-parts, number-lt, number-more}
+use Rattle.parity_rows.proofs.Words.{digit, bit-linear, from-digit}
+use Rattle.parity_rows.proofs.ByRows.{row-lt, column-lt}
 use Rattle.parity_laws.proofs.Spot.{one, spot, same-test}
 
 -- ---- a bit of a power of two
@@ -108,6 +110,16 @@ module _ (u : List ℕ) (i b : ℕ) (h : i < length u) where
       ∙ xor-swap (bitFrom u 4 c) (one (sameBit i b 4 c)) (xorAll 64 f) (xorAll 64 g)
 
 -- ---- the parity words hold the parity: in a unit as it is written nothing differs
+
+-- digit i of a number is what it was made of
+number-digit : (f : ℕ → ℕ) → ((i : ℕ) → f i < 2) → (i : ℕ) → i < 16 → digit (number 16 f) i ≡ f i
+unfolding bitOf
+number-digit f bits i h =
+    let n : suc i + (15 - i) ≡ 16 = omega arith in
+    ap (λ (m : ℕ). number m f / 2 ^ (15 - i) % 2) (sym n)
+    ∙ ap (λ (x : ℕ). x / 2 ^ (15 - i) % 2) (number-parts (suc i) (15 - i) f)
+    ∙ ap (λ (x : ℕ). x % 2) (high (number (suc i) f) (15 - i) (number-lt (15 - i) (λ j. f (suc i + j)) (λ j. bits (suc i + j))) ∙ number-more i f)
+    ∙ digits-mod (number i f) (bits i)
 
 module _ (d x : List ℕ) where
   row-at : (j : ℕ) → j < 4 → getD (parityWords d ++ x) (0 + j) 0 ≡ rowWord d j

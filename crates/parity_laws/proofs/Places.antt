@@ -7,8 +7,8 @@ use lib.Dec.{eqb}
 use lib.Bits.{xor-zero-l, xor-zero-r}
 use borrow.Author.Tests.{eq-eqb, ne-eqb, eqb-true}
 use Rattle.base.specs.Xor.{_⊕_}
-use Rattle.parity.specs.Parity.{xorAll}
-use Rattle.parity.proofs.Folds.{xor-cong, xor-none}
+use Rattle.parity_rows.specs.Parity.{xorAll}
+use Rattle.parity_rows.proofs.Folds.{xor-cong, xor-none}
 use Rattle.parity_laws.proofs.Spot.{one, spot, xor-when, same-test, and-both, both-and}
 use Rattle.parity_laws.proofs.Flips.{sameBit, rowFlip, columnFlip}
 

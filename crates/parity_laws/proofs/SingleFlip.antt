@@ -17,8 +17,8 @@ use Rattle.base.proofs.XorLaws.{xor-assoc}
 use Rattle.base.proofs.Refused.{answer-yes}
 use Rattle.parity.specs.declared.Judged.{Judged}
 use Rattle.parity.specs.Unit.{unitOf, flipped, rowDiffers, columnDiffers, sumAll, firstOf, Finding, sound, parityBit, dataBit, neither, fiveCases, finding, repaired, unitData, reply, judgeVerdict, judgeReply, checkReply, checkRoom}
-use Rattle.parity.specs.Sums.{answerOf}
-use Rattle.parity.proofs.Judging.{judgement, judged-refusal, checked-refusal, room-enough}
+use Rattle.parity.specs.Answered.{answerOf}
+use Rattle.parity.proofs.Judging.{judgement, judged-refusal, checked-refusal, accepted-as-judged}
 use Rattle.parity_laws.specs.Units.{Fits, Answers, WrittenIsSound, OneFlipIsRepaired, Hold, Arrived, none, whole, hurt, ArrivedHold}
 use Rattle.parity_laws.proofs.Spot.{spot, sum-cong, first-cong, sum-none, sum-spot, first-spot}
 use Rattle.parity_laws.proofs.Flips.{rowFlip, columnFlip, flip-row, flip-column, unit-data, unit-length, no-row, no-column}
@@ -209,7 +209,7 @@ module _ {u d : List ℕ} {case word bit : ℕ} (r : Repaired u d case word bit)
   checks : (m : ℕ) → length d ≤ m → checkReply u m ≡ reply 0 case word bit (length d)
   checks m h =
       let k = ap (λ (j : Judged). j .length .0) (r .judges) in
-      sym (room-enough u m (judgeReply u) refl (ap (λ (j : Judged). j .refusal) (r .judges)) (omega (arith, k))) ∙ r .judges
+      sym (accepted-as-judged u m (judgeReply u) refl (ap (λ (j : Judged). j .refusal) (r .judges)) (omega (arith, k))) ∙ r .judges
 
   gives-data : (room : List ℕ) → length d ≤ length room → checkRoom u room ≡ put d 0 room
   unfolding checkRoom

@@ -7,10 +7,11 @@ use native.Mathlib.Nat.{le-refl, lt-trans, eq-or-lt-of-le, le-of-suc-le-suc}
 use native.Mathlib.Omega.{arith}
 use lib.Dec.{eqb, lit<, eqb·suc-zero, eqb·suc-suc}
 use borrow.Author.Tests.{eq-eqb, ne-eqb}
-use Rattle.parity.specs.Parity.{xorAll}
+use Rattle.parity_rows.specs.Parity.{xorAll}
 use Rattle.parity.specs.Unit.{sumAll, firstOf}
-use Rattle.parity.proofs.Folds.{xor-none}
-use Rattle.parity.proofs.Counted.{odd-sum}
+use Rattle.parity_rows.proofs.Folds.{xor-none}
+use Rattle.parity_rows.proofs.Ones.{odd-ones}
+use Rattle.parity.proofs.Counted.{ones-sum}
 
 -- 1 where a test holds
 abbrev pub one : Bool → ℕ
@@ -56,7 +57,7 @@ sum-spot (suc n) p h = by-place (eq-or-lt-of-le (le-of-suc-le-suc h)) (sum-spot 
     by-place (inr q) rest = ap₂ (λ (x y : ℕ). x + y) (rest q) (ap one (ne-eqb p n (λ z. omega arith)))
 
 pub xor-spot : (n p : ℕ) → p < n → xorAll n (spot p) ≡ 1
-xor-spot n p h = odd-sum (spot p) (spot-lt p) n ∙ ap (λ (x : ℕ). x % 2) (sum-spot n p h)
+xor-spot n p h = sym (odd-ones (spot p) (spot-lt p) n) ∙ ap (λ (x : ℕ). x % 2) (ones-sum (spot p) (spot-lt p) n ∙ sum-spot n p h)
 
 pub first-spot : (n p : ℕ) → p < n → firstOf n (spot p) ≡ p
 unfolding firstOf

@@ -1,4 +1,4 @@
--- `parity::rows::add` meets its contract: the low digit of a count is its oddness, and shifted by less than 64 it stays whole.
+-- `parity_rows::add` meets its contract: the low digit of a count is its oddness, and shifted by less than 64 it stays whole.
 use mathlib.Core.Path.{_≡_, ap, _∙_}
 use Prim.Native.Nat.{ℕ, _-_, _*_, _%_, _^_, _<_}
 use native.Mathlib.Nat.{mod-lt}
@@ -9,10 +9,10 @@ use lib.Count.{ones}
 use lib.Pow.{shl-exact}
 use mir.Facts.{fits-mask}
 use Rattle.base.specs.Xor.{_⊕_}
-use Rattle.parity.specs.Sums.{sums}
+use Rattle.parity_rows.specs.Parity.{sums}
 use borrow.Author.Needs.{needs}
-use Rattle.parity.proofs.rows.add.Statement.{statement}
-use Rattle.parity.proofs.rows.add.Tie as tie
+use Rattle.parity_rows.proofs.add.Statement.{statement}
+use Rattle.parity_rows.proofs.add.Tie as tie
 
 placed : (n r : ℕ) → r < 64 → bitAnd n 1 * 2 ^ (63 - r) % 2 ^ 64 ≡ n % 2 * 2 ^ (63 - r)
 placed n r h = ap (λ (x : ℕ). x * 2 ^ (63 - r) % 2 ^ 64) (and-mask n 1) ∙ shl-exact 1 (63 - r) 64 (mod-lt n (lit< tt)) (omega arith)

@@ -1,22 +1,21 @@
 -- The parity of rows and columns of bits, from the rows as numbers: a row's is the oddness of its ones, and the columns' are the
 -- digits of the rows' exclusive or.
 use mathlib.Core.Path.{_≡_, refl, sym, ap, ap₂, _∙_, subst}
-use mathlib.Core.List.{List, _∷_}
+use mathlib.Core.List.{List, [], _∷_}
 use Prim.Native.Nat.{ℕ, suc, _+_, _-_, _*_, _/_, _%_, _^_, _<_, _≤_}
-use native.Mathlib.Nat.{add-zero, add-mul, mul-assoc, mul-comm, div-one, add-sub-of-le, pow-suc}
+use native.Mathlib.Nat.{add-mul, mul-assoc, mul-comm, mul-one, div-one, pow-suc}
 use native.Mathlib.Numerals.{add-one, one-add}
 use native.Mathlib.Omega.{arith}
 use lib.Pow.{high, low, shl-lt}
-use lib.Bits.{xor-zero-r, xor-shifted}
+use lib.Bits.{xor-shifted}
 use lib.Count.{ones}
-use lib.ListN.{length}
 use Rattle.base.specs.Xor.{_⊕_}
-use Rattle.parity.specs.declared.rows.Sums.{Sums}
-use Rattle.parity.specs.Parity.{xorAll, number, bitFrom, rowParity, columnParity, rowWord, columnWord, parityWords}
-use Rattle.parity.specs.Sums.{sums, rowOf, sumsOf, oneMore, parities, wordsOf}
-use Rattle.parity.proofs.Folds.{xor-more, number-more, xor-parts, number-parts, xor-none, number-none, number-lt, number-xorAll, xorAll-lt}
-use Rattle.parity.proofs.Words.{from-lt, from-past}
-use Rattle.parity.proofs.Counted.{odd-ones}
+use Rattle.parity_rows.specs.declared.Sums.{Sums}
+use Rattle.parity_rows.specs.Parity.{xorAll, number, bitFrom, rowParity, columnParity, rowWord, columnWord, parityWords, sums, parities}
+use Rattle.parity_rows.specs.ByRows.{rowOf, sumsOf, oneMore}
+use Rattle.parity_rows.proofs.Folds.{xor-more, number-more, number-parts, number-lt, number-xorAll, xorAll-lt}
+use Rattle.parity_rows.proofs.Words.{from-lt}
+use Rattle.parity_rows.proofs.Ones.{odd-ones}
 
 pub row-lt : (d : List ℕ) (r : ℕ) → rowParity d r < 2
 unfolding rowParity
@@ -56,28 +55,10 @@ next-sums d n h p q r =
     (sym (xor-more n (rowOf d)))
     ∙ ap (sumsOf d) (sym (add-one n))
 
--- ---- rows past the data are 0
-
-module _ (d : List ℕ) (r : ℕ) (h : length d ≤ 4 * r) where
-  past-row : rowOf d r ≡ 0
-  past-row = number-none 64 (bitFrom d (4 * r)) (λ c. from-past d (4 * r) c h)
-
-  past-odd : rowParity d r ≡ 0
-  unfolding rowParity
-  past-odd = xor-none 64 (bitFrom d (4 * r)) (λ c. from-past d (4 * r) c h)
-
--- the sums of n rows that hold all the data
-pub all-rows : (d : List ℕ) (n : ℕ) → n ≤ 64 → length d ≤ 4 * n → sumsOf d n ≡ parities d
+-- of all 64 rows
+pub all-rows : (d : List ℕ) → sumsOf d 64 ≡ parities d
 unfolding columnParity
-all-rows d n all enough =
-    ap₂ sums
-    (sym (ap (λ (x : ℕ). number x (rowParity d)) (sym (add-sub-of-le all)) ∙ number-parts n (64 - n) (rowParity d)
-    ∙ ap (λ (x : ℕ). number n (rowParity d) * 2 ^ (64 - n) + x) (number-none (64 - n) (λ i. rowParity d (n + i)) (λ i. past-odd d (n + i) (omega arith)))
-    ∙ add-zero (number n (rowParity d) * 2 ^ (64 - n))))
-    (sym (number-xorAll 64 64 (λ r. bitFrom d (4 * r)) (λ r. from-lt d (4 * r))
-    ∙ ap (λ (x : ℕ). xorAll x (rowOf d)) (sym (add-sub-of-le all)) ∙ xor-parts n (64 - n) (rowOf d)
-    ∙ ap (λ (x : ℕ). xorAll n (rowOf d) ⊕ x) (xor-none (64 - n) (λ i. rowOf d (n + i)) (λ i. past-row d (n + i) (omega arith)))
-    ∙ xor-zero-r (xorAll n (rowOf d))))
+all-rows d = ap₂ sums (mul-one (number 64 (rowParity d))) (sym (number-xorAll 64 64 (λ r. bitFrom d (4 * r)) (λ r. from-lt d (4 * r))))
 
 -- ---- the parity words
 
@@ -91,9 +72,22 @@ middle n m f h =
 last-digits : (f : ℕ → ℕ) → ((i : ℕ) → f i < 2) → number 64 f % 2 ^ 16 ≡ number 16 (λ i. f (48 + i))
 last-digits f h = ap (λ (x : ℕ). x % 2 ^ 16) (sym (div-one (number 64 f))) ∙ middle 48 0 f h
 
-pub words-are : (d : List ℕ) {s : Sums} {p : List ℕ} → s ≡ parities d → p ≡ wordsOf s → p ≡ parityWords d
+-- the eight words of the sums
+abbrev wordsOf : Sums → List ℕ
+wordsOf s =
+    s .rows / 2 ^ 48 % 2 ^ 16
+    ∷ s .rows / 2 ^ 32 % 2 ^ 16
+    ∷ s .rows / 2 ^ 16 % 2 ^ 16
+    ∷ s .rows % 2 ^ 16
+    ∷ s .columns / 2 ^ 48 % 2 ^ 16
+    ∷ s .columns / 2 ^ 32 % 2 ^ 16
+    ∷ s .columns / 2 ^ 16 % 2 ^ 16
+    ∷ s .columns % 2 ^ 16
+    ∷ []
+
+pub words-of-sums : (d : List ℕ) {s : Sums} {p : List ℕ} → s ≡ parities d → p ≡ wordsOf s → p ≡ parityWords d
 unfolding parityWords rowWord columnWord
-words-are d e q =
+words-of-sums d e q =
     let r = rowParity d in
     let c = columnParity d in
     q ∙ ap wordsOf e ∙

@@ -8,7 +8,7 @@ use lib.Bits.{xor-block, xor-lt, xor-zero-r}
 use Rattle.base.specs.Xor.{_⊕_}
 use Rattle.base.proofs.XorLaws.{xor-assoc, xor-swap}
 use Rattle.base.proofs.Linear.{Linear}
-use Rattle.parity.specs.Parity.{xorAll, number}
+use Rattle.parity_rows.specs.Parity.{xorAll, number}
 
 -- ---- one more
 

@@ -3,18 +3,17 @@ use mathlib.Core.Path.{_≡_, sym, ap, ap₂, _∙_}
 use mathlib.Core.Bool.{Bool}
 use mathlib.Core.List.{List}
 use Prim.Native.Nat.{ℕ, suc, _+_, _-_, _*_, _/_, _%_, _^_, _<_, _≤_}
-use native.Mathlib.Nat.{mod-lt, zero-add, add-zero, zero-div}
+use native.Mathlib.Nat.{mod-lt, zero-add, add-zero}
 use native.Mathlib.Omega.{arith}
 use lib.Dec.{eqb, eqb→eq, lit<}
-use lib.Arith.{digits-mod}
-use lib.Pow.{high}
-use lib.ListN.{length, replicate, getD, List·getD-eq-default}
+use lib.ListN.{replicate, getD}
+use Rattle.base.specs.Number.{bitOf}
 use Rattle.base.proofs.XorLaws.{xor-bit}
 use Rattle.base.proofs.Linear.{Linear, agree, same}
 use Rattle.base.proofs.Every.{at}
-use Rattle.parity.specs.Parity.{number, bitOf, bitFrom}
-use Rattle.parity.specs.Sums.{pack}
-use Rattle.parity.proofs.Folds.{number-linear, number-cong, number-parts, number-lt, number-more}
+use Rattle.parity_rows.specs.Parity.{number, bitFrom}
+use Rattle.parity_rows.specs.ByRows.{pack}
+use Rattle.parity_rows.proofs.Folds.{number-linear, number-cong, number-parts}
 
 pub bit-lt : (w b : ℕ) → bitOf w b < 2
 unfolding bitOf
@@ -38,27 +37,11 @@ word-bits w h =
     agree (λ w. number 16 (digit w)) (λ w. w) (number-linear 16 (λ i w. digit w i) (λ i w. bit-lt w (15 - i)) (λ i. bit-linear (15 - i))) same 16
     (λ i p. eqb→eq (number 16 (digit (2 ^ i))) (2 ^ i) (at right (replicate 16 0) tt i p)) w h
 
--- digit i of a number is what it was made of
-pub number-digit : (f : ℕ → ℕ) → ((i : ℕ) → f i < 2) → (i : ℕ) → i < 16 → digit (number 16 f) i ≡ f i
-unfolding bitOf
-number-digit f bits i h =
-    let n : suc i + (15 - i) ≡ 16 = omega arith in
-    ap (λ (m : ℕ). number m f / 2 ^ (15 - i) % 2) (sym n)
-    ∙ ap (λ (x : ℕ). x / 2 ^ (15 - i) % 2) (number-parts (suc i) (15 - i) f)
-    ∙ ap (λ (x : ℕ). x % 2) (high (number (suc i) f) (15 - i) (number-lt (15 - i) (λ j. f (suc i + j)) (λ j. bits (suc i + j))) ∙ number-more i f)
-    ∙ digits-mod (number i f) (bits i)
-
 -- ---- the bits of words one after the other
 
 pub from-lt : (ws : List ℕ) (w i : ℕ) → bitFrom ws w i < 2
 unfolding bitFrom
 from-lt ws w i = bit-lt (getD ws (w + i / 16) 0) (15 - i % 16)
-
--- past the end all is 0
-pub from-past : (ws : List ℕ) (w i : ℕ) → length ws ≤ w → bitFrom ws w i ≡ 0
-unfolding bitFrom bitOf
-from-past ws w i h =
-    ap (λ (x : ℕ). x / 2 ^ (15 - i % 16) % 2) (List·getD-eq-default ws 0 {n = w + i / 16} (omega arith)) ∙ ap (λ (x : ℕ). x % 2) (zero-div (2 ^ (15 - i % 16)))
 
 -- bit 16 j + i from a word on is digit i of the j-th word after it
 pub from-digit : (ws : List ℕ) (w j i : ℕ) → i < 16 → bitFrom ws w (16 * j + i) ≡ digit (getD ws (w + j) 0) i

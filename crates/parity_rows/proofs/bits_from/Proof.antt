@@ -1,9 +1,9 @@
--- `parity::rows::bits_from` meets its contract: past the end `word_at` gives 0, as `getD` does.
+-- `parity_rows::bits_from` meets its contract: past the end `word_at` gives 0, as `getD` does.
 use mathlib.Core.Path.{_∙_}
-use Rattle.parity.proofs.Words.{packed}
+use Rattle.parity_rows.proofs.Words.{packed}
 use borrow.Author.Needs.{needs}
-use Rattle.parity.proofs.rows.bits_from.Statement.{statement}
-use Rattle.parity.proofs.rows.bits_from.Tie as tie
+use Rattle.parity_rows.proofs.bits_from.Statement.{statement}
+use Rattle.parity_rows.proofs.bits_from.Tie as tie
 
 returns : tie.Need-returns
 returns c =

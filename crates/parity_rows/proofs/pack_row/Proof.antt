@@ -1,11 +1,11 @@
--- `parity::rows::pack_row` meets its contract: each word stands below the words before it.
+-- `parity_rows::pack_row` meets its contract: each word stands below the words before it.
 use mathlib.Core.Path.{_≡_, ap, ap₂, _∙_}
 use Prim.Native.Nat.{ℕ, _+_, _*_, _%_, _^_, _<_}
 use native.Mathlib.Omega.{arith}
 use lib.Bits.{bitOr, or-shifted}
-use Rattle.parity.specs.Sums.{pack}
-use Rattle.parity.proofs.rows.pack_row.Statement.{statement}
-use Rattle.parity.proofs.rows.pack_row.Tie as tie
+use Rattle.parity_rows.specs.ByRows.{pack}
+use Rattle.parity_rows.proofs.pack_row.Statement.{statement}
+use Rattle.parity_rows.proofs.pack_row.Tie as tie
 
 module _ (a b c d : ℕ) (ha : a < 65536) (hb : b < 65536) (hc : c < 65536) (hd : d < 65536) where
   joined : bitOr (bitOr (bitOr (a * 2 ^ 48 % 2 ^ 64) (b * 2 ^ 32 % 2 ^ 64)) (c * 2 ^ 16 % 2 ^ 64)) d ≡ pack a b c d

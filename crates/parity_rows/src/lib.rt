@@ -1,11 +1,11 @@
-// The parity of up to 256 words of data, in one pass by rows of four words.
+// The parity of data, taken as 64 rows of 64 bits: in one pass by rows of four words, zeros past the end.
 use base::Words;
+use base::number;
 use base::room;
 ghost use mathlib.Core.Path.{_≡_};
-ghost use Prim.Native.Nat.{_%_, _^_, _<_, _≤_};
-ghost use lib.ListN.{length};
-ghost use Rattle.parity.specs.Parity.{number, bitFrom};
-ghost use Rattle.parity.specs.Sums.{pack, oneMore, parities, wordsOf};
+ghost use Prim.Native.Nat.{_<_, _≤_};
+ghost use Rattle.parity_rows.specs.Parity.{number, bitFrom, parityWords, parities, statedParity};
+ghost use Rattle.parity_rows.specs.ByRows.{pack, oneMore};
 
 // A digit for each row and one for each column, the first highest.
 pub struct Sums {
@@ -19,9 +19,9 @@ fn pack_row(a: u16, b: u16, c: u16, d: u16) -> u64
     ((a as u64) << 48) | ((b as u64) << 32) | ((c as u64) << 16) | (d as u64)
 }
 
-// The 64 bits from a word on as one number, the first bit highest; past the end stand zeros.
-pub fn bits_from(words: &[u16], at: usize) -> u64
-    requires { ⌜ at ≤ length (now words) ⌝ }
+// The 64 bits from a word on as one number, the first bit highest.
+fn bits_from(words: &[u16], at: usize) -> u64
+    requires { ⌜ at ≤ 256 ⌝ }
     ensures { λ r. ⌜ r ≡ number 64 (bitFrom (now (words .entry)) at) ⌝ }
 {
     pack_row(
@@ -44,44 +44,47 @@ fn add(s: Sums, w: u64, r: usize) -> Sums
     }
 }
 
-// The parity of every row and column, as if zeros filled the data up to 256 words: rows past the data add nothing.
+// The parity of every row and every column of the data.
 pub fn parity(data: &[u16]) -> Sums
-    requires { ⌜ length (now «data») ≤ 256 ⌝ }
     ensures { λ s. ⌜ s ≡ parities (now («data» .entry)) ⌝ }
 {
-    let n = (data.len() + 3) / 4;
     let mut s = Sums {
         rows: 0,
         columns: 0,
     };
     let mut r = 0;
-    while r < n {
+    while r < 64 {
         s = add(s, bits_from(data, 4 * r), r);
         r += 1;
     }
     s
 }
 
-fn low_word(x: u64) -> u16
-    ensures { λ r. ⌜ r ≡ x % 2 ^ 16 ⌝ }
+// The parity that a unit's first eight words state.
+pub fn stated(unit: &[u16]) -> Sums
+    ensures { λ s. ⌜ s ≡ statedParity (now (unit .entry)) ⌝ }
 {
-    (x & 0xffff) as u16
+    Sums {
+        rows: bits_from(unit, 0),
+        columns: bits_from(unit, 4),
+    }
 }
 
-// The eight parity words.
-pub fn parity_words(s: Sums) -> [u16; 8]
-    ensures { λ r. ⌜ r ≡ wordsOf s ⌝ }
+// The eight parity words of the data.
+pub fn parity_words(data: &[u16]) -> [u16; 8]
+    ensures { λ r. ⌜ r ≡ parityWords (now («data» .entry)) ⌝ }
 {
+    let s = parity(data);
     let rows = s.rows;
     let columns = s.columns;
     [
-        low_word(rows >> 48),
-        low_word(rows >> 32),
-        low_word(rows >> 16),
-        low_word(rows),
-        low_word(columns >> 48),
-        low_word(columns >> 32),
-        low_word(columns >> 16),
-        low_word(columns),
+        number::low_word(rows >> 48),
+        number::low_word(rows >> 32),
+        number::low_word(rows >> 16),
+        number::low_word(rows),
+        number::low_word(columns >> 48),
+        number::low_word(columns >> 32),
+        number::low_word(columns >> 16),
+        number::low_word(columns),
     ]
 }
