@@ -24,16 +24,17 @@ use Rattle.chunk_laws.specs.Written.{accepted, written}
 use Rattle.chunk_laws.proofs.Tests.{and-both}
 use Rattle.chunk_laws.proofs.Rows.{long, row-first, row-rest, row-confirmed, row-drop, lists-row, row-at, row-listed, payload-there}
 use Rattle.chunk_laws.proofs.Written.{kind-written, camera-written, size-written, written-whole}
+use Rattle.parity_laws.specs.Units.{Hold}
 use Rattle.health.specs.Packet.{permittedType}
 use Rattle.health.specs.Writing.{packetFrom}
-use Rattle.health.proofs.RoundTrip.{written-sound}
+use Rattle.health_laws.proofs.RoundTrip.{written-is-sound}
 use Rattle.frame.specs.Shape.{starts, continues, whole, joining, frameOf, startsFrame, frameChunks, frameWords, frameCamera, observes, closesFrame, complete}
 use Rattle.frame.specs.Picture.{parts, unitsIn, payloadOf, unitsOf, frameUnits, anyDamaged, joinedData, dataWords}
 use Rattle.frame.specs.Replies.{frame, refused, described, tooLong, noFrame, atCauses, judgeCauses, readCauses, atReply, judgeReply, readReply, readRoom}
 use Rattle.frame.proofs.Joining.{joining-one}
 use Rattle.frame.proofs.Units.{joined-length}
 use Rattle.frame.proofs.Walking.{complete-at}
-use Rattle.frame_laws.specs.Written.{joined, unitRow, Hold, frameRow, writable, fullButLast, allUnits, Written, recordingOf, ComesBack, FramesComeBack}
+use Rattle.frame_laws.specs.Written.{joined, unitRow, frameRow, writable, fullButLast, allUnits, Written, recordingOf, ComesBack, FramesComeBack}
 
 -- ---- a payload splits into its units
 
@@ -315,4 +316,4 @@ pub observation-observes : (cam time : ℕ) (ws packets : List ℕ) → 1 ≤ ca
 observation-observes cam time ws packets l m n =
     let p : List ℕ = packetFrom (3 + cam) time ws in
     let t : permittedType (3 + cam) ≡ true = rw (le-leb 1 (3 + cam) (omega arith), le-leb (3 + cam) 15 (omega arith)) in
-    rw (take-at p packets 32 (omega arith), written-sound (3 + cam) time ws t n, eq-eqb (3 + cam) (3 + cam) refl)
+    rw (take-at p packets 32 (omega arith), written-is-sound (3 + cam) time ws t n, eq-eqb (3 + cam) (3 + cam) refl)

@@ -2,4 +2,3 @@ pub mod Answered
 pub mod Parts
 pub mod Sound
 pub mod Wrote
-pub mod RoundTrip
