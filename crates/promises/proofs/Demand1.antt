@@ -18,7 +18,7 @@ use Rattle.command.specs.Calls as command
 use Rattle.chunk_register.specs.Register as register
 use Rattle.chunk_outline.specs.Outline as outline
 use Rattle.frame.specs.Replies as frame
-use Rattle.program_input.specs.Input as listing
+use Rattle.program_input.specs.Input as input
 use Rattle.reel.specs.Reading as reelReading
 use Rattle.reel.specs.Writing as reelWriting
 use Rattle.health_last.specs.declared.Place.{Place}
@@ -51,7 +51,7 @@ ordered =
       readFrame = λ sync p m ws. refl;
       writeReel = λ sync m ws. refl;
       readReel = λ sync r. refl;
-      listingInput = λ n m. refl;
+      inputWords = λ n most m. refl;
     }
 
 -- a refusal is what `answer` gives where the verdict is not 0
@@ -67,7 +67,7 @@ unfolding last.partAt
 no-part v science health = refl
 
 pub refusing : Refusing
-unfolding settled chunk.writeRoom register.listReply register.listRoom outline.outlineReply parity.writeVerdict parity.writeReply parity.writeRoom parity.judgeVerdict parity.judgeReply parity.checkVerdict parity.checkReply parity.checkRoom readReply health.writeRoom observationReply checksumsReply upsetsReply last.lastPlaceReply command.readReply command.given command.furtherReply command.settled command.writeReply command.writeRoom frame.atReply frame.judgeReply frame.readReply frame.readRoom reelWriting.writeReply reelWriting.writeRoom reelReading.readReply listing.wordsReply listing.wordsRoom
+unfolding settled chunk.writeRoom register.listReply register.listRoom outline.outlineReply parity.writeVerdict parity.writeReply parity.writeRoom parity.judgeVerdict parity.judgeReply parity.checkVerdict parity.checkReply parity.checkRoom readReply health.writeRoom observationReply checksumsReply upsetsReply last.lastPlaceReply command.readReply command.given command.furtherReply command.settled command.writeReply command.writeRoom frame.atReply frame.judgeReply frame.readReply frame.readRoom reelWriting.writeReply reelWriting.writeRoom reelReading.readReply input.wordsReply input.wordsRoom
 refusing =
     record {
       survey = λ sync ws. refuses (surveyCauses ws) _ _;
@@ -103,6 +103,6 @@ refusing =
       writeReel = λ sync m ws. refuses (reelWriting.writeCauses sync ws m) _ _;
       reelRoom = λ sync ws room. spares (reelWriting.writeCauses sync ws (length room)) _ _;
       readReel = λ sync r. refuses (reelReading.readCauses sync r) _ _;
-      listingInput = λ n m. refuses (listing.wordsCauses n m) _ _;
-      inputRoom = λ bytes room. spares (listing.wordsCauses (length bytes) (length room)) _ _;
+      inputWords = λ n most m. refuses (input.wordsCauses n most m) _ _;
+      inputRoom = λ most bytes room. spares (input.wordsCauses (length bytes) most (length room)) _ _;
     }

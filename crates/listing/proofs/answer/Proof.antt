@@ -10,11 +10,11 @@ use Rattle.listing.proofs.answer.Statement.{statement}
 use Rattle.listing.proofs.answer.Tie as tie
 
 -- the words that were taken: one at the least, and no more than there is room for
-within : (c : tie.Else1) → (let w = c .before .before .before .words2 in (1 ≤ w .result .length .0) × (w .result .length .0 ≤ length (w .last .1 .0)))
+within : (c : tie.Else1) → (let w = c .before .before .before .words2 in (1 ≤ w .result .length .0) × (w .result .length .0 ≤ length (w .last .1 .1 .0)))
 within c =
     let w = c .before .before .before .words2 in
-    let t = taken _ _ _ (w .ensures .0) (c .if1 .left) in
-    let l = ap length (w .ensures .1) ∙ after-length _ _ in
+    let t = taken _ _ _ _ (w .ensures .0) (c .if1 .left) in
+    let l = ap length (w .ensures .1) ∙ after-length _ _ _ in
     (t .0, omega (arith, t .1, l))
 
 array-share-prefix-words : tie.Need-array-share-prefix-words
@@ -26,7 +26,7 @@ slice-aggregate-list c = sym (length-take-le _ _ (within (c .before) .1))
 list-requires : tie.Need-list-requires
 list-requires c κs =
     let w = c .before .before .before .before .words2 in
-    omega (arith, length-take-le (w .result .length .0) (w .last .1 .0) (within (c .before) .1), within (c .before) .0)
+    omega (arith, length-take-le (w .result .length .0) (w .last .1 .1 .0) (within (c .before) .1), within (c .before) .0)
 
 pub answer-spec : {M : Type 1} → statement M
 answer-spec =

@@ -1,17 +1,17 @@
--- `listing::input::take` ends, and counts within its room: each turn takes a byte at the least.
+-- `program_reading::take` ends, and counts within its room: each turn takes a byte at the least.
 use mathlib.Core.Path.{_≡_, sym}
 use Prim.Native.Nat.{_-_, _≤_}
 use lib.ListN.{length}
 use lib.Seq.{length-take-le}
 use borrow.Author.Needs.{needs}
-use Rattle.listing.proofs.input.take.Statement.{statement}
-use Rattle.listing.proofs.input.take.Tie as tie
+use Rattle.program_reading.proofs.take.Statement.{statement}
+use Rattle.program_reading.proofs.take.Tie as tie
 
 abbrev Inv-loop : tie.InvT-loop
-Inv-loop room₀ count₀ room count = (length room ≡ length room₀) × (count ≤ length room₀)
+Inv-loop descriptor room₀ count₀ room count = (length room ≡ length room₀) × (count ≤ length room₀)
 
 abbrev μ-loop : tie.MeasureT-loop
-μ-loop room₀ count₀ room count = length room₀ - count
+μ-loop descriptor room₀ count₀ room count = length room₀ - count
 
 returns-2 : tie.Need-returns-2 Inv-loop μ-loop
 returns-2 c = (search needs, sym (length-take-le _ _ (search needs)))
