@@ -8,11 +8,11 @@ use Rattle.base.proofs.Refused.{answer-no}
 use Rattle.chunk.specs.Replies.{surveyCauses, atCauses}
 use Rattle.chunk.specs.Writing as chunk
 use Rattle.parity.specs.Unit as parity
-use Rattle.health.specs.Reading.{readCauses, readReply}
+use Rattle.health.specs.Reading as packet
 use Rattle.health.specs.Writing as health
-use Rattle.health_fields.specs.Observation.{observationCauses, observationReply}
-use Rattle.health_fields.specs.Checksums.{checksumsCauses, checksumsReply}
-use Rattle.health_fields.specs.Upsets.{upsetsCauses, upsetsReply}
+use Rattle.health_observation.specs.Observation as observation
+use Rattle.health_checksums.specs.Checksums as checksums
+use Rattle.health_upsets.specs.Upsets as upsets
 use Rattle.health_last.specs.Last as last
 use Rattle.command.specs.Calls as command
 use Rattle.chunk_register.specs.Register as register
@@ -38,7 +38,7 @@ ordered =
       writeUnit = λ k room. refl;
       judgeUnit = λ u. refl;
       checkUnit = λ u room. refl;
-      readReply = λ p. refl;
+      readPacket = λ p. refl;
       writePacket = λ t n room. refl;
       observation = λ p. refl;
       checksums = λ p. refl;
@@ -67,7 +67,7 @@ unfolding last.partAt
 no-part v science health = refl
 
 pub refusing : Refusing
-unfolding settled chunk.writeRoom register.listReply register.listRoom outline.outlineReply parity.writeVerdict parity.writeReply parity.writeRoom parity.judgeVerdict parity.judgeReply parity.checkVerdict parity.checkReply parity.checkRoom readReply health.writeRoom observationReply checksumsReply upsetsReply last.lastPlaceReply command.readReply command.given command.furtherReply command.settled command.writeReply command.writeRoom frame.atReply frame.judgeReply frame.readReply frame.readRoom reelWriting.writeReply reelWriting.writeRoom reelReading.readReply input.wordsReply input.wordsRoom
+unfolding settled chunk.writeRoom register.listReply register.listRoom outline.outlineReply parity.writeVerdict parity.writeReply parity.writeRoom parity.judgeVerdict parity.judgeReply parity.checkVerdict parity.checkReply parity.checkRoom packet.readReply health.writeRoom observation.observationReply checksums.checksumsReply upsets.upsetsReply last.lastPlaceReply command.readReply command.given command.furtherReply command.settled command.writeReply command.writeRoom frame.atReply frame.judgeReply frame.readReply frame.readRoom reelWriting.writeReply reelWriting.writeRoom reelReading.readReply input.wordsReply input.wordsRoom
 refusing =
     record {
       survey = λ sync ws. refuses (surveyCauses ws) _ _;
@@ -83,12 +83,12 @@ refusing =
       judgeUnit = λ u. refuses (parity.judgeCauses u) _ _;
       checkUnit = λ u room. refuses (parity.checkCauses u room) _ _;
       dataRoom = λ u room. spares (parity.checkCauses u (length room)) _ _;
-      readReply = λ p. refuses (readCauses p) _ _;
+      readPacket = λ p. refuses (packet.readCauses p) _ _;
       writePacket = λ t n room. refuses (health.writeCauses t n room) _ _;
       packetRoom = λ t s ws room. spares (health.writeCauses t (length ws) (length room)) _ _;
-      observation = λ p. refuses (observationCauses p) _ _;
-      checksums = λ p. refuses (checksumsCauses p) _ _;
-      upsets = λ p. refuses (upsetsCauses p) _ _;
+      observation = λ p. refuses (observation.observationCauses p) _ _;
+      checksums = λ p. refuses (checksums.checksumsCauses p) _ _;
+      upsets = λ p. refuses (upsets.upsetsCauses p) _ _;
       lastPlace = λ sync t ws hs. refuses (last.lastCauses sync ws hs t) _ _;
       lastPacket = λ sync t ws hs h.
           ap (λ (s : Place). last.partAt s ws hs) (refuses (last.lastCauses sync ws hs t) _ _ h) ∙ no-part (verdict (last.lastCauses sync ws hs t)) ws hs;

@@ -13,7 +13,7 @@ use Rattle.parity_rows.specs.Parity.{xorAll, number, bitFrom, rowParity, column
 use Rattle.parity.specs.Unit.{unitOf, flipped, rowDiffers, columnDiffers, sumAll, firstOf, fiveCases, finding, unitData, checkVerdict, writeVerdict, reply, refused, checkReply, checkRoom, writeRoom}
 use Rattle.health.specs.Packet.{packetCrc}
 use Rattle.health.specs.Writing.{writtenCrc}
-use Rattle.health_fields.specs.Upsets.{upset, upsetTable, upsetsReply}
+use Rattle.health_upsets.specs.Upsets.{upset, upsetTable, upsetsReply}
 use Rattle.command_catalogue.specs.Table.{table, permits}
 use Rattle.command.specs.Layout.{commandBytes}
 use Rattle.command.specs.Calls.{command, noFields, given, readReply}

@@ -9,7 +9,7 @@ use Rattle.chunk.specs.Replies.{surveyed, surveyReply}
 use Rattle.crc.specs.Crc.{crcWords}
 use Rattle.parity.specs.Unit.{reply, refused, checkReply, checkRoom, writeRoom}
 use Rattle.health.specs.Writing.{packetFrom}
-use Rattle.health_fields.specs.Upsets.{upset, upsetTable, upsetsReply}
+use Rattle.health_upsets.specs.Upsets.{upset, upsetTable, upsetsReply}
 use Rattle.command.specs.declared.Fields.{Fields}
 use Rattle.command.specs.Layout.{commandBytes}
 use Rattle.command.specs.Calls.{command, noFields, readReply}
