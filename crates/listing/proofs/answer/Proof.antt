@@ -18,15 +18,16 @@ within c =
     (t .0, omega (arith, t .1, l))
 
 array-share-prefix-words : tie.Need-array-share-prefix-words
-array-share-prefix-words c = within c .1
+array-share-prefix-words c = within (c .before) .1
 
 slice-aggregate-list : tie.Need-slice-aggregate-list
-slice-aggregate-list c = sym (length-take-le _ _ (within (c .before) .1))
+slice-aggregate-list c = sym (length-take-le _ _ (within (c .before .before) .1))
 
 list-requires : tie.Need-list-requires
 list-requires c κs =
-    let w = c .before .before .before .before .words2 in
-    omega (arith, length-take-le (w .result .length .0) (w .last .1 .1 .0) (within (c .before) .1), within (c .before) .0)
+    let e = c .before .before in
+    let w = e .before .before .before .words2 in
+    omega (arith, length-take-le (w .result .length .0) (w .last .1 .1 .0) (within e .1), within e .0)
 
 pub answer-spec : {M : Type 1} → statement M
 answer-spec =
