@@ -76,8 +76,8 @@ no-header sync [] h = refl
 no-header sync (w ∷ []) h = refl
 no-header sync (w ∷ v ∷ l) h = absurd (omega arith)
 
-shifted : (n at l end : ℕ) → at + n ≡ end → at ≤ l → eqb n (l - at) ≡ eqb end l
-shifted n at l end e h = go (eqb end l) refl
+end-shifted : (n at l end : ℕ) → at + n ≡ end → at ≤ l → eqb n (l - at) ≡ eqb end l
+end-shifted n at l end e h = go (eqb end l) refl
   where
     go : (b : Bool) → eqb end l ≡ b → eqb n (l - at) ≡ b
     go true z = eq-eqb n (l - at) (omega (arith, eqb-true end l z))
@@ -88,9 +88,9 @@ module _ (sync : ℕ) (ws : List ℕ) (at : ℕ) where
   headed-none h = no-header sync (drop at ws) (simp length-drop (omega arith))
 
   -- the two words of a header
-  pub headed-is : at + 1 < length ws → headed sync (drop at ws) ≡ eqb (getD ws at 0) sync && legal (getD ws (at + 1) 0)
+  pub headed-by-words : at + 1 < length ws → headed sync (drop at ws) ≡ eqb (getD ws at 0) sync && legal (getD ws (at + 1) 0)
   unfolding headed
-  headed-is h =
+  headed-by-words h =
       rw (drop-cons ws at 0 (omega arith), ← add-one at, drop-cons ws (at + 1) 0 h)
 
   -- a header lies within the recording
@@ -102,12 +102,12 @@ module _ (sync : ℕ) (ws : List ℕ) (at : ℕ) where
   confirmed-none e = ap (λ (b : Bool). b && ends sync (span (getD (drop at ws) 1 0)) (drop at ws)) e
 
   -- where a header stands, the chunk is confirmed by what stands at its end
-  pub confirmed-is : (end : ℕ) → headed sync (drop at ws) ≡ true → end ≡ at + 2 + size (getD ws (at + 1) 0)
+  pub confirmed-by-end : (end : ℕ) → headed sync (drop at ws) ≡ true → end ≡ at + 2 + size (getD ws (at + 1) 0)
       → confirmed sync (drop at ws) ≡ eqb end (length ws) || headed sync (drop end ws)
   unfolding confirmed ends
-  confirmed-is end e n =
+  confirmed-by-end end e n =
       let s : at + span (getD (drop at ws) 1 0) ≡ end = omega (arith, ap size (getD-drop at ws 1 0)) in
       let l : eqb (span (getD (drop at ws) 1 0)) (length (drop at ws)) ≡ eqb end (length ws) =
-      ap (eqb (span (getD (drop at ws) 1 0))) (length-drop at ws) ∙ shifted (span (getD (drop at ws) 1 0)) at (length ws) end s (omega (arith, headed-inside e)) in
+      ap (eqb (span (getD (drop at ws) 1 0))) (length-drop at ws) ∙ end-shifted (span (getD (drop at ws) 1 0)) at (length ws) end s (omega (arith, headed-inside e)) in
       let d : drop (span (getD (drop at ws) 1 0)) (drop at ws) ≡ drop end ws = drop-drop (span (getD (drop at ws) 1 0)) at ws ∙ ap (λ (m : ℕ). drop m ws) s in
       rw (e, l, d)

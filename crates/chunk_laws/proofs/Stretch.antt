@@ -18,7 +18,7 @@ use Rattle.chunk.specs.Reading.{reading, leftAt}
 use Rattle.chunk.proofs.Headers.{legal-bounds}
 use Rattle.chunk_laws.specs.Stretch.{Laid, words, offset, entries, whole, wholeRow, lacks, clean, headless, unbroken}
 use Rattle.chunk_laws.proofs.Tests.{and-both}
-use Rattle.chunk_laws.proofs.Rows.{long, ends-past, lists-row, left-rest}
+use Rattle.chunk_laws.proofs.Rows.{whole-length, ends-past, lists-row, left-rest}
 
 -- ---- legal headers
 
@@ -96,7 +96,7 @@ pub not-inside : (sync : ℕ) (c : Laid) (cs : List Laid) → unbroken sync (c �
 unfolding unbroken ends
 not-inside sync c cs k zero some few e = absurd (omega arith)
 not-inside sync c cs k (suc i) some few e =
-    let n : length (c .payload) ≡ size (c .header) = long c (first-whole sync c cs k) in
+    let n : length (c .payload) ≡ size (c .header) = whole-length c (first-whole sync c cs k) in
     let inner : List ℕ = c .header ∷ (c .payload ++ words sync cs) in
     let free : headless sync (suc (length (c .payload))) inner ≡ true = and-right (whole c) _ (and-left (whole c && _) _ k) in
     elim (or-cases (eqb (suc i) (offset sync (c ∷ cs))) (headed sync (drop i inner)) e) as (λ x. ⊥) [
@@ -108,16 +108,16 @@ not-inside sync c cs k (suc i) some few e =
 ends-rest : (sync : ℕ) (c : Laid) (cs : List Laid) → whole c ≡ true → (k : ℕ)
     → ends sync (span (c .header) + k) (words sync (c ∷ cs)) ≡ ends sync k (words sync cs)
 ends-rest sync c cs t k =
-    ap (λ (n : ℕ). ends sync n (words sync (c ∷ cs))) (omega (arith, long c t)) ∙ ends-past sync k (sync ∷ c .header ∷ c .payload) (words sync cs)
+    ap (λ (n : ℕ). ends sync n (words sync (c ∷ cs))) (omega (arith, whole-length c t)) ∙ ends-past sync k (sync ∷ c .header ∷ c .payload) (words sync cs)
 
 -- where a chunk ends in the stretch, no words are left of one that is listed when the stretch is read alone
-pub boundary : (sync : ℕ) (cs : List Laid) → unbroken sync cs ≡ true → (n : ℕ) → ends sync n (words sync cs) ≡ true
+pub ends-at-boundary : (sync : ℕ) (cs : List Laid) → unbroken sync cs ≡ true → (n : ℕ) → ends sync n (words sync cs) ≡ true
     → leftAt sync 0 (words sync cs) n ≡ 0
 unfolding leftAt
-boundary sync [] k zero e = refl
-boundary sync [] k (suc n) e = refl
-boundary sync (c ∷ cs) k zero e = refl
-boundary sync (c ∷ cs) k (suc i) e =
+ends-at-boundary sync [] k zero e = refl
+ends-at-boundary sync [] k (suc n) e = refl
+ends-at-boundary sync (c ∷ cs) k zero e = refl
+ends-at-boundary sync (c ∷ cs) k (suc i) e =
     elim (decLt (suc i) (span (c .header))) as (λ x. leftAt sync 0 (words sync (c ∷ cs)) (suc i) ≡ 0) [
       | yes h ↦ absurd (not-inside sync c cs k (suc i) (omega arith) h e)
       | no h ↦
@@ -125,5 +125,5 @@ boundary sync (c ∷ cs) k (suc i) e =
           let n : suc i ≡ span (c .header) + m = omega arith in
           let e′ : ends sync m (words sync cs) ≡ true = sym (ends-rest sync c cs (first-whole sync c cs k) m) ∙ (rw n at e) in
           ap (λ (x : ℕ). leftAt sync 0 (words sync (c ∷ cs)) x) n
-          ∙ left-rest sync c cs (unbroken-row sync (c ∷ cs) k) m ∙ boundary sync cs (rest-unbroken sync c cs k) m e′
+          ∙ left-rest sync c cs (unbroken-row sync (c ∷ cs) k) m ∙ ends-at-boundary sync cs (rest-unbroken sync c cs k) m e′
     ]
