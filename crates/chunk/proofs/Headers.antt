@@ -23,24 +23,24 @@ pub check-no : (b : Bool) → checkOf b ≡ Check.NotAChunk → b ≡ false
 check-no true e = let z : _≡_ {A = ℕ} 0 1 = cc in absurd (omega arith)
 check-no false e = refl
 
--- a legal payload has a word at the least, and the longest chunk has 8,186 words
-pub legal-size : (k n : ℕ) → legalSize k n ≡ true → (1 ≤ n) × (n ≤ 8184)
+-- a legal payload has 9 words at the least, and the longest chunk has 8,186
+pub legal-size : (k n : ℕ) → legalSize k n ≡ true → (9 ≤ n) × (n ≤ 8184)
 unfolding legalSize
 legal-size k n e =
     let bounds : leb 1 n && leb n 8190 ≡ true = and-left (leb 1 n && leb n 8190) (cond (eqb k 0) (imageSize n) (healthSize n)) e in
     let low : 1 ≤ n = leb-true 1 n (and-left (leb 1 n) (leb n 8190) bounds) in
     let high : n ≤ 8190 = leb-true n 8190 (and-right (leb 1 n) (leb n 8190) bounds) in
-    go low high (eqb k 0) (and-right (leb 1 n && leb n 8190) (cond (eqb k 0) (imageSize n) (healthSize n)) e)
+    by-kind low high (eqb k 0) (and-right (leb 1 n && leb n 8190) (cond (eqb k 0) (imageSize n) (healthSize n)) e)
   where
-    go : 1 ≤ n → n ≤ 8190 → (b : Bool) → cond b (imageSize n) (healthSize n) ≡ true → (1 ≤ n) × (n ≤ 8184)
-    go low high true c =
-        elim (or-cases (eqb (n % 264) 0) (leb 9 (n % 264)) c) as (λ x. (1 ≤ n) × (n ≤ 8184)) [
-          | inl z ↦ (low, omega (arith, eqb-true (n % 264) 0 z))
-          | inr z ↦ (low, omega (arith, leb-true 9 (n % 264) z))
+    by-kind : 1 ≤ n → n ≤ 8190 → (b : Bool) → cond b (imageSize n) (healthSize n) ≡ true → (9 ≤ n) × (n ≤ 8184)
+    by-kind low high true c =
+        elim (or-cases (eqb (n % 264) 0) (leb 9 (n % 264)) c) as (λ x. (9 ≤ n) × (n ≤ 8184)) [
+          | inl z ↦ let t = eqb-true (n % 264) 0 z in (omega arith, omega arith)
+          | inr z ↦ let t = leb-true 9 (n % 264) z in (omega arith, omega arith)
         ]
-    go low high false c = (low, omega (arith, eqb-true (n % 32) 0 c))
+    by-kind low high false c = let t = eqb-true (n % 32) 0 c in (omega arith, omega arith)
 
-pub legal-bounds : (h : ℕ) → legal h ≡ true → (1 ≤ size h) × (size h ≤ 8184)
+pub legal-bounds : (h : ℕ) → legal h ≡ true → (9 ≤ size h) × (size h ≤ 8184)
 unfolding legal
 legal-bounds h e = legal-size (kind h) (size h) (and-left (legalSize (kind h) (size h)) _ e)
 
@@ -61,7 +61,7 @@ ends-within sync n ws e =
     ]
 
 -- a confirmed chunk lies within the words, and its size is legal
-pub confirmed-within : (sync : ℕ) (ws : List ℕ) → confirmed sync ws ≡ true → (span (getD ws 1 0) ≤ length ws) × (1 ≤ size (getD ws 1 0)) × (size (getD ws 1 0) ≤ 8184)
+pub confirmed-within : (sync : ℕ) (ws : List ℕ) → confirmed sync ws ≡ true → (span (getD ws 1 0) ≤ length ws) × (9 ≤ size (getD ws 1 0)) × (size (getD ws 1 0) ≤ 8184)
 unfolding confirmed
 confirmed-within sync ws e =
     let h : headed sync ws ≡ true = and-left (headed sync ws) (ends sync (span (getD ws 1 0)) ws) e in

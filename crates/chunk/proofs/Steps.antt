@@ -124,7 +124,7 @@ module _ (sync : ℕ) (ws : List ℕ) (p : ℕ) (h : p < length ws) where
     abbrev word : ℕ
     word = getD ws (suc p) 0
 
-    pub confirmed-bounds : (p + span word ≤ length ws) × (1 ≤ size word) × (size word ≤ 8184)
+    pub confirmed-bounds : (p + span word ≤ length ws) × (9 ≤ size word) × (size word ≤ 8184)
     confirmed-bounds =
         let b = confirmed-within sync (drop p ws) e in
         let n : size (getD (drop p ws) 1 0) ≡ size word = ap size (getD-drop p ws 1 0 ∙ ap (λ (n : ℕ). getD ws n 0) (add-one p)) in
@@ -276,7 +276,7 @@ pub record Next (sync : ℕ) (ws : List ℕ) (p : ℕ) (e : Entry) (n : ℕ) : T
   pub within : n ≤ length ws
   -- its header word stands after its first word, with a legal size
   pub word : e .header ≡ getD ws (suc (e .position .0)) 0
-  pub least : 1 ≤ size (e .header)
+  pub least : 9 ≤ size (e .header)
   pub most : size (e .header) ≤ 8184
   -- it is the first that is confirmed
   pub confirms : confirmed sync (drop (e .position .0) ws) ≡ true

@@ -1,40 +1,25 @@
 -- A stretch in whose chunks no legal header begins: a chunk that ends in it ends where one of its own begins or with the stretch, and there no words
 -- are left of a chunk when the stretch is read alone. A clean stretch is such a one.
 use mathlib.Core.Path.{_≡_, refl, sym, ap, _∙_}
-use mathlib.Core.Bool.{Bool, true, false, cond, not, _&&_, false≢true}
+use mathlib.Core.Bool.{Bool, true, false, not, _&&_, false≢true}
 use mathlib.Core.List.{List, [], _∷_, _++_}
 use mathlib.Core.Logic.{inl, inr}
-use Prim.Native.Nat.{ℕ, zero, suc, _+_, _-_, _≤_, _<_, _%_}
+use Prim.Native.Nat.{ℕ, zero, suc, _+_, _-_, _<_}
 use native.Mathlib.Omega.{arith}
 use native.Mathlib.Numerals.{one-add}
 use native.Mathlib.Decide.{decLt}
 use lib.ListN.{length, drop, length-append}
 use lib.Seq.{drop-drop}
-use lib.Dec.{leb, eqb}
-use borrow.Author.Tests.{eqb-true, leb-true, not-true}
+use lib.Dec.{eqb}
+use borrow.Author.Tests.{eqb-true, not-true}
 use Rattle.base.proofs.Booleans.{and-left, and-right, or-cases}
-use Rattle.chunk.specs.Header.{size, span, kind, imageSize, healthSize, legalSize, legal, headed, ends}
+use Rattle.chunk.specs.Header.{size, span, legal, headed, ends}
 use Rattle.chunk.specs.Reading.{reading, leftAt}
-use Rattle.chunk.proofs.Headers.{legal-bounds}
 use Rattle.chunk_laws.specs.Stretch.{Laid, words, offset, entries, whole, wholeRow, lacks, clean, headless, unbroken}
 use Rattle.chunk_laws.proofs.Tests.{and-both}
 use Rattle.chunk_laws.proofs.Rows.{whole-length, ends-past, lists-row, left-rest}
 
 -- ---- legal headers
-
--- a payload has 9 words at the least
-pub legal-least : (h : ℕ) → legal h ≡ true → 9 ≤ size h
-unfolding legal legalSize
-legal-least h e =
-    by-kind (eqb (kind h) 0) (and-right (leb 1 (size h) && leb (size h) 8190) _ (and-left (legalSize (kind h) (size h)) _ e)) (legal-bounds h e .0)
-  where
-    by-kind : (b : Bool) → cond b (imageSize (size h)) (healthSize (size h)) ≡ true → 1 ≤ size h → 9 ≤ size h
-    by-kind true c some =
-        elim (or-cases (eqb (size h % 264) 0) (leb 9 (size h % 264)) c) as (λ x. 9 ≤ size h) [
-          | inl z ↦ omega (arith, eqb-true (size h % 264) 0 z)
-          | inr z ↦ omega (arith, leb-true 9 (size h % 264) z)
-        ]
-    by-kind false c some = omega (arith, eqb-true (size h % 32) 0 c)
 
 headed-sync : (sync w : ℕ) (ws : List ℕ) → eqb w sync ≡ false → headed sync (w ∷ ws) ≡ false
 unfolding headed
