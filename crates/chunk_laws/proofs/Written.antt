@@ -23,7 +23,7 @@ use Rattle.chunk_laws.specs.Stretch.{Laid, words, offset, whole, wholeRo
 use Rattle.chunk_laws.specs.Written.{accepted, written, Holds, Alone, Followed}
 use Rattle.chunk_laws.proofs.Tests.{and-both}
 use Rattle.chunk_laws.proofs.ByPlace.{place-listed, listed-place}
-use Rattle.chunk_laws.proofs.Rows.{long, row-first, row-after, row-at, row-listed, payload-there, lists-row, skips-none}
+use Rattle.chunk_laws.proofs.Rows.{whole-length, row-first, row-after, row-at, row-listed, payload-there, lists-row, skips-none}
 
 -- a row of whole chunks gives each of them back, where it stands
 pub row-holds : (sync : ℕ) (before : List Laid) (c : Laid) (after : List Laid) → wholeRow (before ++ c ∷ after) ≡ true
@@ -37,7 +37,7 @@ row-holds sync before c after k =
       there = rw here at (place-listed sync p ws (row-listed sync before c after k));
       ofKind = refl;
       ofCamera = refl;
-      ofSize = sym (long c (row-first c after (row-after before (c ∷ after) k)));
+      ofSize = sym (whole-length c (row-first c after (row-after before (c ∷ after) k)));
       carries =
           ap (take (size (c .header))) (sym (drop-drop 2 p ws) ∙ ap (drop 2) here)
           ∙ payload-there sync c after (row-first c after (row-after before (c ∷ after) k));

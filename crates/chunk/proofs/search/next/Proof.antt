@@ -10,7 +10,7 @@ use Rattle.chunk.specs.declared.Found.{Found}
 use Rattle.chunk.specs.Header.{size, span, confirmed}
 use Rattle.chunk.specs.Reading.{entry, nextFrom}
 use Rattle.chunk.proofs.Headers.{check-yes, check-no}
-use Rattle.chunk.proofs.Steps.{found-hit, hit-within, found-miss, found-end}
+use Rattle.chunk.proofs.Steps.{found-here, confirmed-bounds, found-later, found-end}
 use Rattle.chunk.proofs.search.next.Statement.{statement}
 use Rattle.chunk.proofs.search.next.Tie as tie
 
@@ -28,7 +28,7 @@ loop-again c =
     let l = c .before .before .before .before in
     let a = l .before .before .args in
     ap (λ (n : ℕ). nextFrom (a .sync) (a .words .now) n) (add-one (l .loop .at))
-    ∙ sym (found-miss (a .sync) (a .words .now) (l .loop .at) (omega arith) (check-no _ (sym (c .before .before .check .ensures) ∙ c .enum-told2 .given .1)))
+    ∙ sym (found-later (a .sync) (a .words .now) (l .loop .at) (omega arith) (check-no _ (sym (c .before .before .check .ensures) ∙ c .enum-told2 .given .1)))
     ∙ l .loop .inv
 
 returns : tie.Need-returns Inv-loop μ-loop
@@ -58,7 +58,7 @@ end c =
     let l = w .before .before .before .before .before in
     let a = l .before .before .args in
     let n : c .size-of .result .0 ≡ size (getD (a .words .now) (suc (l .loop .at)) 0) = c .size-of .ensures ∙ ap size (word w) in
-    (omega arith, omega (arith, hit-within (a .sync) (a .words .now) (l .loop .at) (omega arith) (here (w .before)) .0))
+    (omega arith, omega (arith, confirmed-bounds (a .sync) (a .words .now) (l .loop .at) (omega arith) (here (w .before)) .0))
 
 add-end-2 : tie.Need-add-end-2 Inv-loop μ-loop
 add-end-2 c = record { fits = omega (arith, end (c .before) .1) }
@@ -69,7 +69,7 @@ returns-2 c =
     let l = w .before .before .before .before .before in
     let a = l .before .before .args in
     ap₂ (λ (h n : ℕ). Found.Chunk (entry (l .loop .at) h) (record { 0 = n })) (word w) (end (c .before) .0)
-    ∙ sym (found-hit (a .sync) (a .words .now) (l .loop .at) (omega arith) (here (w .before)))
+    ∙ sym (found-here (a .sync) (a .words .now) (l .loop .at) (omega arith) (here (w .before)))
     ∙ l .loop .inv
 
 pub next-spec : {M : Type 1} → statement M
