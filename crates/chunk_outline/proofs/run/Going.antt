@@ -1,7 +1,7 @@
 -- The search for the end of a run: it goes from end to end of the run's chunks, and the runs from the place reached are those from the first place.
-use mathlib.Core.Path.{_≡_, refl, sym, ap, ap₂, _∙_}
+use mathlib.Core.Path.{_≡_, refl, sym, ap, _∙_}
 use mathlib.Core.Bool.{Bool, true, false, cond, _&&_}
-use mathlib.Core.List.{List, [], _∷_}
+use mathlib.Core.List.{List}
 use Prim.Native.Nat.{ℕ, _+_, _≤_}
 use native.Mathlib.Nat.{zero-add}
 use native.Mathlib.Omega.{arith}
@@ -57,11 +57,16 @@ module _ (sync : ℕ) (ws : List ℕ) (own from : ℕ) where
           → runsOn k own sync ws from ≡ cond b 0 (one k own) + runsOn k (kind (e .header)) sync ws n
       by-next b t k = g .same k ∙ here b t k ∙ ap (λ (m : ℕ). cond b 0 (one k own) + m) (runs-from sync ws end e n s k)
 
+      same-end : {f : Entry} {m : Words} → Found.Chunk e (record { 0 = n }) ≡ Found.Chunk f m → record { 0 = n } ≡ m
+      same-end q = cc
+
       -- it begins another run
       pub run-parted : eqb (e .position .0) end && eqb (kind (e .header)) own ≡ false → RunOn sync ws own from (Found.Chunk e (record { 0 = n }))
       run-parted t = record {
         counts = by-next false t;
-        ahead = λ f m q. let i : record { 0 = n } ≡ m = cc in (omega (arith, g .on, s .ahead, s .end, ap (λ (x : Words). x .0) i), omega (arith, s .within, ap (λ (x : Words). x .0) i));
+        ahead = λ f m q.
+            let i : n ≡ m .0 = ap (λ (x : Words). x .0) (same-end q) in
+            (omega (arith, g .on, s .ahead, s .end), omega (arith, s .within));
       }
 
       -- it is of this run

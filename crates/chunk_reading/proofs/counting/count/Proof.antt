@@ -1,6 +1,6 @@
--- `chunk_reading::counting::count` meets its contract: the loop of `Counting`.
-use mathlib.Core.Path.{_≡_, sym, ap₂, _∙_}
-use Prim.Native.Nat.{_+_, _-_}
+-- `chunk_reading::counting::count` meets its contract: the loop of `Counted`.
+use mathlib.Core.Path.{sym, ap₂, _∙_}
+use Prim.Native.Nat.{_-_}
 use native.Mathlib.Omega.{arith}
 use lib.ListN.{length}
 use borrow.Author.Needs.{needs}

@@ -1,8 +1,8 @@
--- `reel::layout::put_trailer` meets its contract: two writes end to end.
-use Rattle.reel.proofs.Ends.{trailer-put}
+-- `reel_writing::trailer::put_trailer` meets its contract: two writes end to end.
+use Rattle.reel_writing.proofs.trailer.Putting.{trailer-put}
 use borrow.Author.Needs.{needs}
-use Rattle.reel.proofs.layout.put_trailer.Statement.{statement}
-use Rattle.reel.proofs.layout.put_trailer.Tie as tie
+use Rattle.reel_writing.proofs.trailer.put_trailer.Statement.{statement}
+use Rattle.reel_writing.proofs.trailer.put_trailer.Tie as tie
 
 returns : tie.Need-returns
 returns c =

@@ -1,10 +1,10 @@
--- `reel::layout::agrees` meets its contract: the length, the last word, and the CRC of the words that stand there.
+-- `reel::trailer::agrees` meets its contract: the length, the last word, and the CRC of the words that stand there.
 use mathlib.Core.Path.{sym, ap, _∙_}
-use Rattle.reel.specs.declared.layout.Trailer.{Trailer}
-use Rattle.reel.proofs.Ends.{wrong-length, wrong-edition, right-crc}
+use Rattle.reel.specs.declared.trailer.Trailer.{Trailer}
+use Rattle.reel.proofs.trailer.Agreeing.{wrong-length, wrong-edition, right-crc}
 use borrow.Author.Needs.{needs}
-use Rattle.reel.proofs.layout.agrees.Statement.{statement}
-use Rattle.reel.proofs.layout.agrees.Tie as tie
+use Rattle.reel.proofs.trailer.agrees.Statement.{statement}
+use Rattle.reel.proofs.trailer.agrees.Tie as tie
 
 returns : tie.Need-returns
 returns c =

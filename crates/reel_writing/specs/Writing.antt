@@ -1,4 +1,4 @@
--- Document 01, "Reel": what the writer answers and writes.
+-- FORMAT, "Reel": what the writer answers and writes.
 use Prim.Native.Nat.{ℕ}
 use mathlib.Core.List.{List, [], _∷_}
 use lib.ListN.{length}

@@ -11,8 +11,8 @@ use lib.Dec.{lit<}
 use borrow.Author.Tests.{eq-eqb, ne-eqb}
 use Rattle.chunk.specs.declared.Entry.{Entry}
 use Rattle.chunk.specs.Header.{kind, size}
-use Rattle.chunk.specs.Reading.{listed, reading}
-use Rattle.chunk.proofs.Steps.{Next, Last, past}
+use Rattle.chunk.specs.Reading.{listed}
+use Rattle.chunk.proofs.Steps.{Next, Last}
 use Rattle.health.specs.Packet.{packetType, soundPacket}
 use Rattle.health_last.specs.declared.Sought.{Sought}
 use Rattle.health_last.specs.declared.Sought.the-variants.{At, Nowhere}
@@ -77,15 +77,15 @@ module _ (f : ℕ → Bool) where
     one-less : suc (n - 1) ≡ n
     one-less = omega arith
 
-    pub hit : f (from + 32 * (n - 1)) ≡ true → At (record { 0 = from + 32 * (n - 1) }) ≡ lastWhere f (packetPlaces n from)
-    hit e = sym (from-back (n - 1) from true e) ∙ ap (λ (k : ℕ). lastWhere f (packetPlaces k from)) one-less
+    pub last-found : f (from + 32 * (n - 1)) ≡ true → At (record { 0 = from + 32 * (n - 1) }) ≡ lastWhere f (packetPlaces n from)
+    last-found e = sym (from-back (n - 1) from true e) ∙ ap (λ (k : ℕ). lastWhere f (packetPlaces k from)) one-less
 
-    pub miss : f (from + 32 * (n - 1)) ≡ false → lastWhere f (packetPlaces (n - 1) from) ≡ lastWhere f (packetPlaces n from)
-    miss e = sym (from-back (n - 1) from false e) ∙ ap (λ (k : ℕ). lastWhere f (packetPlaces k from)) one-less
+    pub last-before : f (from + 32 * (n - 1)) ≡ false → lastWhere f (packetPlaces (n - 1) from) ≡ lastWhere f (packetPlaces n from)
+    last-before e = sym (from-back (n - 1) from false e) ∙ ap (λ (k : ℕ). lastWhere f (packetPlaces k from)) one-less
 
-  pub none-in : (n from : ℕ) → n ≡ 0 → lastWhere f (packetPlaces n from) ≡ Nowhere
+  pub none-left : (n from : ℕ) → n ≡ 0 → lastWhere f (packetPlaces n from) ≡ Nowhere
   unfolding packetPlaces lastWhere
-  none-in n from e = ap (λ (k : ℕ). lastWhere f (packetPlaces k from)) e
+  none-left n from e = ap (λ (k : ℕ). lastWhere f (packetPlaces k from)) e
 
 -- ---- a chunk
 
@@ -94,42 +94,38 @@ module _ (e : Entry) where
   unfolding chunkPlaces lastWhere
   no-packets f h = simp (ne-eqb (kind (e .header)) 1 h)
 
-  pub packets : kind (e .header) ≡ 1 → chunkPlaces e ≡ packetPlaces (size (e .header) / 32) (e .position .0 + 2)
+  pub chunk-packets : kind (e .header) ≡ 1 → chunkPlaces e ≡ packetPlaces (size (e .header) / 32) (e .position .0 + 2)
   unfolding chunkPlaces
-  packets h = simp (eq-eqb (kind (e .header)) 1 h)
+  chunk-packets h = simp (eq-eqb (kind (e .header)) 1 h)
 
 -- ---- a science recording, chunk by chunk
 
 -- what is left of the reading at a place, after what was found before it, gives the answer
 pub record Sifted (sync t : ℕ) (ws : List ℕ) (at : ℕ) (last : Sought) : Type 0 where
   pub within : at ≤ length ws
-  pub is : later (lastWhere (soundOf ws t) (placesOf (listed sync at 0 (drop at ws)))) last ≡ inScience sync ws t
+  pub answers : later (lastWhere (soundOf ws t) (placesOf (listed sync at 0 (drop at ws)))) last ≡ inScience sync ws t
 
 module _ (sync t : ℕ) (ws : List ℕ) where
-  pub start : Sifted sync t ws 0 Nowhere
-  start = record { within = omega arith; is = later-none (inScience sync ws t) }
+  pub none-sifted : Sifted sync t ws 0 Nowhere
+  none-sifted = record { within = omega arith; answers = later-none (inScience sync ws t) }
 
-  pub turn : {at : ℕ} {last : Sought} → Sifted sync t ws at last → {e : Entry} → Next sync ws at e
-      → {found now : Sought} {to : ℕ} → found ≡ lastWhere (soundOf ws t) (chunkPlaces e) → now ≡ later found last → to ≡ past e
-      → Sifted sync t ws to now
+  pub chunk-sifted : {at : ℕ} {last : Sought} → Sifted sync t ws at last → {e : Entry} {n : ℕ} → Next sync ws at e n
+      → {found now : Sought} → found ≡ lastWhere (soundOf ws t) (chunkPlaces e) → now ≡ later found last → Sifted sync t ws n now
   unfolding placesOf
-  turn {at} {last} s {e} n {found} {now} {to} ef en et =
+  chunk-sifted {at} {last} s {e} {n} k {found} {now} ef en =
       let f = soundOf ws t in
-      let rest : Sought = lastWhere f (placesOf (listed sync (past e) 0 (drop (past e) ws))) in
-      let all : lastWhere f (placesOf (listed sync at 0 (drop at ws))) ≡ later rest (lastWhere f (chunkPlaces e)) =
-      ap (λ (es : List Entry). lastWhere f (placesOf es)) (n .lists)
-      ∙ last-append f (chunkPlaces e) (placesOf (listed sync (past e) 0 (drop (past e) ws))) in
-      let found-last : now ≡ later (lastWhere f (chunkPlaces e)) last = en ∙ ap (λ (x : Sought). later x last) ef in
+      let ahead : Sought = lastWhere f (placesOf (listed sync n 0 (drop n ws))) in
+      let from-here : lastWhere f (placesOf (listed sync at 0 (drop at ws))) ≡ later ahead (lastWhere f (chunkPlaces e)) =
+      ap (λ (es : List Entry). lastWhere f (placesOf es)) (k .lists) ∙ last-append f (chunkPlaces e) (placesOf (listed sync n 0 (drop n ws))) in
       record {
-        within = omega (arith, n .within);
-        is =
-            ap (λ (k : ℕ). later (lastWhere f (placesOf (listed sync k 0 (drop k ws)))) now) et
-            ∙ ap (later rest) found-last
-            ∙ sym (later-assoc rest (lastWhere f (chunkPlaces e)) last)
-            ∙ ap (λ (x : Sought). later x last) (sym all)
-            ∙ s .is;
+        within = k .within;
+        answers =
+            ap (later ahead) (en ∙ ap (λ (x : Sought). later x last) ef)
+            ∙ sym (later-assoc ahead (lastWhere f (chunkPlaces e)) last)
+            ∙ ap (λ (x : Sought). later x last) (sym from-here)
+            ∙ s .answers;
       }
 
-  pub done : {at : ℕ} {last : Sought} → Sifted sync t ws at last → Last sync ws at → last ≡ inScience sync ws t
+  pub all-sifted : {at : ℕ} {last : Sought} → Sifted sync t ws at last → Last sync ws at → last ≡ inScience sync ws t
   unfolding placesOf lastWhere
-  done {at} {last} s n = ap (λ (es : List Entry). later (lastWhere (soundOf ws t) (placesOf es)) last) (sym (n .lists)) ∙ s .is
+  all-sifted {at} {last} s n = ap (λ (es : List Entry). later (lastWhere (soundOf ws t) (placesOf es)) last) (sym (n .lists)) ∙ s .answers

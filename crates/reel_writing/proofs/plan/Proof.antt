@@ -1,19 +1,19 @@
--- `reel::plan` meets its contract.
+-- `reel_writing::plan` meets its contract.
 use mathlib.Core.Path.{ap, _∙_}
 use Prim.Native.Nat.{ℕ}
 use native.Mathlib.Omega.{arith}
 use lib.ListN.{length}
 use Rattle.base.specs.Refusal.{settled}
-use Rattle.chunk.specs.declared.Survey.{Survey}
+use Rattle.chunk_reading.specs.declared.Survey.{Survey}
 use Rattle.reel.specs.Layout.{reelWords}
 use Rattle.reel.proofs.Fewest.{few-chunks}
-use Rattle.reel.proofs.Whole.{plan-long, plan-short}
+use Rattle.reel_writing.proofs.Writing.{too-long-refused, room-compared}
 use borrow.Author.Needs.{needs}
-use Rattle.reel.proofs.plan.Statement.{statement}
-use Rattle.reel.proofs.plan.Tie as tie
+use Rattle.reel_writing.proofs.plan.Statement.{statement}
+use Rattle.reel_writing.proofs.plan.Tie as tie
 
 returns : tie.Need-returns
-returns c = let a = c .before .before .before .args in c .settle .ensures ∙ plan-long (a .sync) (a .recording .now) (a .room) (c .before .if1 .taken)
+returns c = let a = c .before .before .before .args in c .settle .ensures ∙ too-long-refused (a .sync) (a .recording .now) (a .room) (c .before .if1 .taken)
 
 reel-words-requires : tie.Need-reel-words-requires
 reel-words-requires c κs =
@@ -25,7 +25,7 @@ returns-2 c =
     let w = c .before .before in
     let a = w .before .before .before .before .args in
     c .settle2 .ensures ∙ ap (λ (v : ℕ). settled v (w .reel-words .result)) (c .before .cause .ensures)
-    ∙ plan-short (a .sync) (a .recording .now) (a .room) _ (w .before .before .if1 .left)
+    ∙ room-compared (a .sync) (a .recording .now) (a .room) _ (w .before .before .if1 .left)
     (w .reel-words .ensures ∙ ap (λ (s : Survey). reelWords (length (a .recording .now)) (s .chunks)) (w .before .count .ensures))
 
 pub plan-spec : {M : Type 1} → statement M
