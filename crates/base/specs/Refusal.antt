@@ -1,4 +1,4 @@
--- Document 01, "Refusal numbers": what each number means, and which of a call's causes is given.
+-- FORMAT, "Refusal numbers": what each number means, and which of a call's causes is given.
 use Prim.Native.Nat.{ℕ}
 use mathlib.Core.Bool.{Bool, true, false, cond}
 use mathlib.Core.List.{List, [], _∷_}

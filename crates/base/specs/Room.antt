@@ -1,4 +1,4 @@
--- Document 01, "Refusal numbers": accepted writes touch only the words of the result. One rule for words and for bytes.
+-- FORMAT, "Refusal numbers": accepted writes touch only the words of the result. One rule for words and for bytes.
 use Prim.Native.Nat.{ℕ, _+_}
 use mathlib.Core.Bool.{cond}
 use mathlib.Core.List.{List, _++_}

@@ -1,5 +1,6 @@
 // What every other crate stands on: the two kinds of count, the refusal numbers, and writing into lent room.
 pub mod limit;
+pub mod number;
 pub mod refusal;
 pub mod room;
 

@@ -1,4 +1,6 @@
-// The paper's limits, one for each use.
+// The limits, one for each use.
+ghost use mathlib.Core.Path.{_≡_};
+ghost use Rattle.base.specs.Limit.{tooLong};
 
 // words of a recording
 pub const RECORDING: usize = 32768;
@@ -8,3 +10,10 @@ pub const HEALTH_RECORDING: usize = 32768;
 pub const REEL_RECORDING: usize = 32768;
 // words of the recording that the listing program takes
 pub const LISTING_RECORDING: usize = 32768;
+
+// Whether a recording has more words than its limit.
+pub fn too_long(recording: &[u16]) -> bool
+    ensures { λ r. ⌜ r ≡ tooLong (now (recording .entry)) ⌝ }
+{
+    RECORDING < recording.len()
+}

@@ -2,6 +2,7 @@
 use crate::Bytes;
 use crate::Words;
 ghost use mathlib.Core.Path.{_≡_};
+ghost use mathlib.Core.List.{_++_};
 ghost use lib.ListN.{getD};
 ghost use Rattle.base.specs.Room.{put};
 
@@ -38,6 +39,21 @@ pub fn put_words(words: &[u16], room: &mut [u16], at: Words)
         room[from + i] = words[i];
         i += 1;
     }
+}
+
+// Two runs of words end to end at the front of the room, where both fit; else nothing.
+pub fn put_joined(first: &[u16], second: &[u16], room: &mut [u16])
+    ensures { λ _. ⌜ now (room .exit) ≡ put (now (first .entry) ++ now (second .entry)) 0 (now (room .entry)) ⌝ }
+{
+    let n = first.len();
+    if room.len() < n {
+        return;
+    }
+    if room.len() - n < second.len() {
+        return;
+    }
+    put_words(first, room, Words(0));
+    put_words(second, room, Words(n));
 }
 
 // The bytes at a place of the room, where they fit; else nothing.

@@ -1,0 +1,14 @@
+-- `base::number::low_word` meets its contract: a mask of sixteen ones.
+use lib.Bits.{and-mask}
+use mir.Facts.{fits-mask}
+use Rattle.base.proofs.number.low_word.Statement.{statement}
+use Rattle.base.proofs.number.low_word.Tie as tie
+
+cast-result : tie.Need-cast-result
+cast-result c = fits-mask (c .args .x) 16 tt
+
+returns : tie.Need-returns
+returns c = and-mask (c .args .x) 16
+
+pub low-word-spec : {M : Type 1} → statement M
+low-word-spec = tie.close (tie.spec cast-result returns)
