@@ -56,13 +56,13 @@ module _ (bytes : List ℕ) (most : ℕ) (room : List ℕ) (r : Written) (e : r 
         ltb-false (length room) (length bytes / 2) (spared (wordsCauses (length bytes) most (length room)) refl (sym number ∙ z) .1 .0) in
         omega (arith, words-length bytes)
 
-    pub given : (d : List ℕ) → d ≡ put (wordsOf bytes) 0 room → d ≡ wordsRoom bytes most room
+    pub written : (d : List ℕ) → d ≡ put (wordsOf bytes) 0 room → d ≡ wordsRoom bytes most room
     unfolding wordsRoom
-    given d ed = ed ∙ sym (answer-yes _ _ _ (sym number ∙ z))
+    written d ed = ed ∙ sym (answer-yes _ _ _ (sym number ∙ z))
 
-pub after-length : (bytes : List ℕ) (most : ℕ) (room : List ℕ) → length (wordsRoom bytes most room) ≡ length room
+pub room-length : (bytes : List ℕ) (most : ℕ) (room : List ℕ) → length (wordsRoom bytes most room) ≡ length room
 unfolding wordsRoom answer
-after-length bytes most room = by-test (eqb (verdict (wordsCauses (length bytes) most (length room))) 0)
+room-length bytes most room = by-test (eqb (verdict (wordsCauses (length bytes) most (length room))) 0)
   where
     by-test : (b : Bool) → length (cond b (put (wordsOf bytes) 0 room) room) ≡ length room
     by-test true = put-length (wordsOf bytes) 0 room
@@ -78,9 +78,9 @@ or-second true false e = refl
 or-second false b e = e
 
 -- an input that is taken has a word at the least, and no more than the room
-pub taken : (n most m : ℕ) (r : Written) → r ≡ wordsReply n most m → r .refusal ≡ 0 → (1 ≤ r .length .0) × (r .length .0 ≤ m)
+pub accepted-length : (n most m : ℕ) (r : Written) → r ≡ wordsReply n most m → r .refusal ≡ 0 → (1 ≤ r .length .0) × (r .length .0 ≤ m)
 unfolding wordsReply settled
-taken n most m r e z =
+accepted-length n most m r e z =
     let v : ℕ = verdict (wordsCauses n most m) in
     let none : v ≡ 0 = sym (ap (λ (x : Written). x .refusal) e ∙ settled-refusal v (n / 2)) ∙ z in
     let l : r .length .0 ≡ n / 2 = ap (λ (x : Written). x .length .0) (e ∙ answer-yes v (λ x. wrote x 0) (wrote 0 (n / 2)) none) in

@@ -7,6 +7,7 @@ use mathlib.Core.List.{List, [], _∷_}
 use lib.ListN.{length}
 use lib.Dec.{ltb, eqb}
 use Rattle.base.specs.Limit.{listingLimit}
+use Rattle.base.specs.Number.{word}
 use Rattle.base.specs.Refusal.{Causes, wrongLength, noRoom, verdict, followsPaper, answer, settled}
 use Rattle.base.specs.Room.{put}
 use Rattle.base.specs.declared.Written.{Written}
@@ -15,7 +16,7 @@ use Rattle.base.specs.declared.Written.{Written}
 unfoldable pub wordsOf : List ℕ → List ℕ
 wordsOf [] = []
 wordsOf (high ∷ []) = []
-wordsOf (high ∷ low ∷ bytes) = (high * 256 + low) ∷ wordsOf bytes
+wordsOf (high ∷ low ∷ bytes) = word high low ∷ wordsOf bytes
 
 -- a number n of bytes that is odd, none, or more than a sync word and `most` words have
 abbrev pub wrongInput : ℕ → ℕ → Bool

@@ -2,6 +2,7 @@
 use base::Bytes;
 use base::Words;
 use base::Written;
+use base::number;
 use base::refusal;
 ghost use mathlib.Core.Path.{_≡_};
 ghost use Prim.Native.Nat.{_+_, _*_};
@@ -37,12 +38,6 @@ fn plan(bytes: Bytes, most: Words, room: Words) -> Written
     )
 }
 
-fn word(high: u8, low: u8) -> u16
-    ensures { λ r. ⌜ r ≡ high * 256 + low ⌝ }
-{
-    (high as u16) * 256 + (low as u16)
-}
-
 // The sync word and a recording of at most so many words, from bytes with the high one of each word first.
 pub fn words(bytes: &[u8], most: Words, room: &mut [u16]) -> Written
     ensures { λ r. ⌜ r ≡ wordsReply (length (now (bytes .entry))) (most .0) (length (now (room .entry))) ⌝ }
@@ -55,7 +50,7 @@ pub fn words(bytes: &[u8], most: Words, room: &mut [u16]) -> Written
     let n = bytes.len() / 2;
     let mut i = 0;
     while i < n {
-        room[i] = word(bytes[2 * i], bytes[2 * i + 1]);
+        room[i] = number::word(bytes[2 * i], bytes[2 * i + 1]);
         i += 1;
     }
     reply

@@ -4,7 +4,7 @@ use Prim.Native.Nat.{_≤_}
 use native.Mathlib.Omega.{arith}
 use lib.ListN.{length}
 use lib.Seq.{length-take-le}
-use Rattle.program_input.proofs.Joining.{taken, after-length}
+use Rattle.program_input.proofs.Joining.{accepted-length, room-length}
 use borrow.Author.Needs.{needs}
 use Rattle.listing.proofs.answer.Statement.{statement}
 use Rattle.listing.proofs.answer.Tie as tie
@@ -13,8 +13,8 @@ use Rattle.listing.proofs.answer.Tie as tie
 within : (c : tie.Else1) → (let w = c .before .before .before .words2 in (1 ≤ w .result .length .0) × (w .result .length .0 ≤ length (w .last .1 .1 .0)))
 within c =
     let w = c .before .before .before .words2 in
-    let t = taken _ _ _ _ (w .ensures .0) (c .if1 .left) in
-    let l = ap length (w .ensures .1) ∙ after-length _ _ _ in
+    let t = accepted-length _ _ _ _ (w .ensures .0) (c .if1 .left) in
+    let l = ap length (w .ensures .1) ∙ room-length _ _ _ in
     (t .0, omega (arith, t .1, l))
 
 array-share-prefix-words : tie.Need-array-share-prefix-words

@@ -1,4 +1,4 @@
--- `program_input::too_many` meets its contract: more than 2 * (1 + most) bytes are those of which, without one, the half is more than `most`.
+-- `program_input::too_many` meets its contract: n bytes are more than 2 * (1 + most) exactly where (n - 1) / 2 is more than `most`.
 use mathlib.Core.Path.{_≡_, refl, sym, _∙_}
 use mathlib.Core.Bool.{Bool, true, false}
 use Prim.Native.Nat.{ℕ, _+_, _-_, _*_, _/_}
