@@ -14,7 +14,8 @@ use Rattle.health_observation.specs.Observation as observation
 use Rattle.health_checksums.specs.Checksums as checksums
 use Rattle.health_upsets.specs.Upsets as upsets
 use Rattle.health_last.specs.Last as last
-use Rattle.command.specs.Calls as command
+use Rattle.command_reading.specs.Reading as commandReading
+use Rattle.command_writing.specs.Writing as commandWriting
 use Rattle.chunk_register.specs.Register as register
 use Rattle.chunk_outline.specs.Outline as outline
 use Rattle.frame.specs.Replies as frame
@@ -67,7 +68,7 @@ unfolding last.partAt
 no-part v science health = refl
 
 pub refusing : Refusing
-unfolding settled chunk.writeRoom register.listReply register.listRoom outline.outlineReply parity.writeVerdict parity.writeReply parity.writeRoom parity.judgeVerdict parity.judgeReply parity.checkVerdict parity.checkReply parity.checkRoom packet.readReply health.writeRoom observation.observationReply checksums.checksumsReply upsets.upsetsReply last.lastPlaceReply command.readReply command.given command.furtherReply command.settled command.writeReply command.writeRoom frame.atReply frame.judgeReply frame.readReply frame.readRoom reelWriting.writeReply reelWriting.writeRoom reelReading.readReply input.wordsReply input.wordsRoom
+unfolding settled chunk.writeRoom register.listReply register.listRoom outline.outlineReply parity.writeVerdict parity.writeReply parity.writeRoom parity.judgeVerdict parity.judgeReply parity.checkVerdict parity.checkReply parity.checkRoom packet.readReply health.writeRoom observation.observationReply checksums.checksumsReply upsets.upsetsReply last.lastPlaceReply commandReading.readReply commandReading.given commandReading.furtherReply commandWriting.settled commandWriting.writeReply commandWriting.writeRoom frame.atReply frame.judgeReply frame.readReply frame.readRoom reelWriting.writeReply reelWriting.writeRoom reelReading.readReply input.wordsReply input.wordsRoom
 refusing =
     record {
       survey = λ sync ws. refuses (surveyCauses ws) _ _;
@@ -92,10 +93,10 @@ refusing =
       lastPlace = λ sync t ws hs. refuses (last.lastCauses sync ws hs t) _ _;
       lastPacket = λ sync t ws hs h.
           ap (λ (s : Place). last.partAt s ws hs) (refuses (last.lastCauses sync ws hs t) _ _ h) ∙ no-part (verdict (last.lastCauses sync ws hs t)) ws hs;
-      readCommand = λ c m bs. refuses (command.readCauses c m bs) _ _;
-      further = λ c m bs. refuses (command.readCauses c m bs) _ _;
-      writeCommand = λ c m room f xs. refuses (command.writeCauses c m f xs room) _ _;
-      commandRoom = λ c m f xs room. spares (command.writeCauses c m f xs (length room)) _ _;
+      readCommand = λ c m bs. refuses (commandReading.readCauses c m bs) _ _;
+      further = λ c m bs. refuses (commandReading.readCauses c m bs) _ _;
+      writeCommand = λ c m room f xs. refuses (commandWriting.writeCauses c m f xs room) _ _;
+      commandRoom = λ c m f xs room. spares (commandWriting.writeCauses c m f xs (length room)) _ _;
       frameAt = λ sync p ws. refuses (frame.atCauses sync ws p) _ _;
       judgeFrame = λ sync p ws. refuses (frame.judgeCauses sync ws p) _ _;
       readFrame = λ sync p m ws. refuses (frame.readCauses sync ws p m) _ _;

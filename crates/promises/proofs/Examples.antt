@@ -16,7 +16,7 @@ use Rattle.health.specs.Writing.{writtenCrc}
 use Rattle.health_upsets.specs.Upsets.{upset, upsetTable, upsetsReply}
 use Rattle.command_catalogue.specs.Table.{table, permits}
 use Rattle.command.specs.Layout.{commandBytes}
-use Rattle.command.specs.Calls.{command, noFields, given, readReply}
+use Rattle.command_reading.specs.Reading.{command, noFields, given, readReply}
 use Rattle.promises.specs.Examples.{Examples, unit, upsetPacket, submode, patch}
 
 surveys : (surveyReply 0x5AF3 [] ≡ surveyed 0 0 0) × (surveyReply 0x5AF3 (0x5AF3 ∷ []) ≡ surveyed 0 0 1)

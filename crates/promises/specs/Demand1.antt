@@ -18,7 +18,8 @@ use Rattle.health_checksums.specs.Checksums as checksums
 use Rattle.health_upsets.specs.Upsets as upsets
 use Rattle.health_last.specs.Last as last
 use Rattle.command.specs.declared.Fields.{Fields}
-use Rattle.command.specs.Calls as command
+use Rattle.command_reading.specs.Reading as commandReading
+use Rattle.command_writing.specs.Writing as commandWriting
 use Rattle.chunk_register.specs.Register as register
 use Rattle.chunk_outline.specs.Outline as outline
 use Rattle.frame.specs.Replies as frame
@@ -50,8 +51,8 @@ pub record Ordered : Type 0 where
   pub checksums : (p : List ℕ) → followsPaper (checksums.checksumsCauses p) ≡ true
   pub upsets : (p : List ℕ) → followsPaper (upsets.upsetsCauses p) ≡ true
   pub lastPacket : (sync t : ℕ) (ws hs : List ℕ) → followsPaper (last.lastCauses sync ws hs t) ≡ true
-  pub readCommand : (c m : ℕ) (bs : List ℕ) → followsPaper (command.readCauses c m bs) ≡ true
-  pub writeCommand : (c m room : ℕ) (f : Fields) (xs : List ℕ) → followsPaper (command.writeCauses c m f xs room) ≡ true
+  pub readCommand : (c m : ℕ) (bs : List ℕ) → followsPaper (commandReading.readCauses c m bs) ≡ true
+  pub writeCommand : (c m room : ℕ) (f : Fields) (xs : List ℕ) → followsPaper (commandWriting.writeCauses c m f xs room) ≡ true
   pub frameAt : (sync p : ℕ) (ws : List ℕ) → followsPaper (frame.atCauses sync ws p) ≡ true
   pub judgeFrame : (sync p : ℕ) (ws : List ℕ) → followsPaper (frame.judgeCauses sync ws p) ≡ true
   pub readFrame : (sync p m : ℕ) (ws : List ℕ) → followsPaper (frame.readCauses sync ws p m) ≡ true
@@ -92,10 +93,10 @@ pub record Refusing : Type 0 where
   pub upsets : (p : List ℕ) → Refuses (upsets.upsetsCauses p) (upsets.upsetsReply p) upsets.refused
   pub lastPlace : (sync t : ℕ) (ws hs : List ℕ) → Refuses (last.lastCauses sync ws hs t) (last.lastPlaceReply sync ws hs t) (λ v. last.place v 0 0)
   pub lastPacket : (sync t : ℕ) (ws hs : List ℕ) → Refuses (last.lastCauses sync ws hs t) (last.lastPacketReply sync ws hs t) (λ v. [])
-  pub readCommand : (c m : ℕ) (bs : List ℕ) → Refuses (command.readCauses c m bs) (command.readReply c m bs) (λ v. command.command v command.noFields 0)
-  pub further : (c m : ℕ) (bs : List ℕ) → Refuses (command.readCauses c m bs) (command.furtherReply c m bs) (λ v. [])
-  pub writeCommand : (c m room : ℕ) (f : Fields) (xs : List ℕ) → Refuses (command.writeCauses c m f xs room) (command.writeReply c m f xs room) (λ v. command.sent v 0)
-  pub commandRoom : (c m : ℕ) (f : Fields) (xs room : List ℕ) → Spares (command.writeCauses c m f xs (length room)) (command.writeRoom c m f xs room) room
+  pub readCommand : (c m : ℕ) (bs : List ℕ) → Refuses (commandReading.readCauses c m bs) (commandReading.readReply c m bs) commandReading.refused
+  pub further : (c m : ℕ) (bs : List ℕ) → Refuses (commandReading.readCauses c m bs) (commandReading.furtherReply c m bs) (λ v. [])
+  pub writeCommand : (c m room : ℕ) (f : Fields) (xs : List ℕ) → Refuses (commandWriting.writeCauses c m f xs room) (commandWriting.writeReply c m f xs room) commandWriting.refused
+  pub commandRoom : (c m : ℕ) (f : Fields) (xs room : List ℕ) → Spares (commandWriting.writeCauses c m f xs (length room)) (commandWriting.writeRoom c m f xs room) room
   pub frameAt : (sync p : ℕ) (ws : List ℕ) → Refuses (frame.atCauses sync ws p) (frame.atReply sync ws p) frame.refused
   pub judgeFrame : (sync p : ℕ) (ws : List ℕ) → Refuses (frame.judgeCauses sync ws p) (frame.judgeReply sync ws p) frame.refused
   pub readFrame : (sync p m : ℕ) (ws : List ℕ) → Refuses (frame.readCauses sync ws p m) (frame.readReply sync ws p m) frame.refused

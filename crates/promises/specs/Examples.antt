@@ -12,7 +12,7 @@ use Rattle.health.specs.Writing.{packetFrom}
 use Rattle.health_upsets.specs.Upsets.{upset, upsetTable, upsetsReply}
 use Rattle.command.specs.declared.Fields.{Fields}
 use Rattle.command.specs.Layout.{commandBytes}
-use Rattle.command.specs.Calls.{command, noFields, readReply}
+use Rattle.command_reading.specs.Reading.{command, noFields, readReply}
 
 -- ---- what the examples are about
 
