@@ -2,25 +2,26 @@
 use mathlib.Core.Path.{_≡_, sym, ap, _∙_}
 use mathlib.Core.Bool.{Bool, true, false, _&&_}
 use mathlib.Core.List.{List, [], _∷_}
-use Prim.Native.Nat.{ℕ, suc, _+_, _-_, _*_, _/_, _≤_, _<_}
+use Prim.Native.Nat.{ℕ, suc, _+_, _-_, _≤_, _<_}
 use native.Mathlib.Omega.{arith}
 use native.Mathlib.Nat.{zero-add}
 use native.Mathlib.Numerals.{add-one}
 use lib.ListN.{length, getD, take, drop}
 use lib.Seq.{getD-drop, drop-drop}
-use lib.Dec.{eqb, leb}
 use Rattle.base.proofs.RoomLaws.{to-end}
 use Rattle.base.proofs.Booleans.{and-left, and-right}
 use Rattle.chunk.specs.declared.Entry.{Entry}
-use Rattle.chunk.specs.Header.{size, camera, kind, span, imageSize, confirmed}
+use Rattle.chunk.specs.Header.{size, span, confirmed}
 use Rattle.chunk.specs.Reading.{entry, reading, listedWords}
 use Rattle.chunk.proofs.Steps.{hit-within}
+use Rattle.parity_units.specs.Split.{dataWords, dataWordsIn}
 use Rattle.frame.specs.declared.shape.Reach.{Reach}
-use Rattle.frame.specs.Shape.{starts, continues, whole, joining, frameOf, startsFrame, frameChunks, frameWords, frameCamera, joinsFrame, closes, closesFrame, complete}
-use Rattle.frame.specs.Picture.{unitsOf, dataWords, frameLength}
-use Rattle.frame.specs.Replies.{frame, reachOf, described}
+use Rattle.frame.specs.Shape.{starts, continues, whole, joining, frameOf, frameChunks, frameWords, frameCamera, closes, complete}
+use Rattle.frame.specs.Picture.{unitsOf, frameLength}
+use Rattle.frame.specs.Described.{frame, described}
+use Rattle.frame.specs.Walk.{startsFrame, joinsFrame, closesFrame, reachOf}
 use Rattle.frame.proofs.Joining.{listedFrom, confirmed-there, next-here, joining-step, joining-stop, closes-at, Rest, rest}
-use Rattle.frame.proofs.UnitWords.{image-size, data-more}
+use Rattle.frame.proofs.Chunks.{data-more}
 
 -- what joins after the chunk `last`, which ends at `end`
 abbrev pub ahead : ℕ → List ℕ → ℕ → ℕ → List Entry
@@ -55,17 +56,14 @@ module _ (sync : ℕ) (ws : List ℕ) (s : startsFrame sync ws ≡ true) where
       ap frameOf (next-here sync ws 0 begun .lists)
       ∙ ap (λ (n : ℕ). entry 0 first ∷ joining (span first) (whole first) (listedFrom sync ws n)) (zero-add (span first))
 
-  image : imageSize (size first) ≡ true
-  image = image-size sync ws begun (and-left (eqb (kind first) 0) (leb 1 (camera first)) (and-right (confirmed sync ws) (starts first) s))
-
-  pub start : (end sum : ℕ) → end ≡ 2 + size first → sum ≡ size first - 8 * ((size first + 263) / 264) → Walked sync ws first 1 end sum
+  pub start : (end sum : ℕ) → end ≡ 2 + size first → sum ≡ dataWordsIn (size first) → Walked sync ws first 1 end sum
   unfolding listedWords
   start end sum e d =
       let n : end ≡ span first = omega (arith, e) in
       let l : length (frameChunks sync ws) ≡ suc (length (ahead sync ws first (span first))) = ap length frame-is in
       let w : frameWords sync ws ≡ span first + listedWords (ahead sync ws first (span first)) = ap listedWords frame-is in
-      let u : frameLength sync ws ≡ size first - 8 * ((size first + 263) / 264) + dataWords (unitsOf ws (ahead sync ws first (span first))) =
-      ap (λ (es : List Entry). dataWords (unitsOf ws es)) frame-is ∙ data-more ws 0 first (ahead sync ws first (span first)) (inside .0) image in
+      let u : frameLength sync ws ≡ dataWordsIn (size first) + dataWords (unitsOf ws (ahead sync ws first (span first))) =
+      ap (λ (es : List Entry). dataWords (unitsOf ws es)) frame-is ∙ data-more ws 0 first (ahead sync ws first (span first)) (inside .0) in
       rw n record {
         within = omega (arith, inside .0);
         few = omega arith;
@@ -86,7 +84,7 @@ module _ (sync : ℕ) (ws : List ℕ) (s : startsFrame sync ws ≡ true) where
 
     -- a continuation joins
     pub turn : (w next length′ : ℕ) → w ≡ getD ws (end + 1) 0 → whole last && joinsFrame sync (drop end ws) ≡ true
-        → next ≡ end + (2 + size w) → length′ ≡ sum + (size w - 8 * ((size w + 263) / 264)) → Walked sync ws w (chunks + 1) next length′
+        → next ≡ end + (2 + size w) → length′ ≡ sum + dataWordsIn (size w) → Walked sync ws w (chunks + 1) next length′
     unfolding listedWords
     turn w next length′ q j n m =
         let f : whole last ≡ true = and-left (whole last) _ j in
@@ -96,14 +94,12 @@ module _ (sync : ℕ) (ws : List ℕ) (s : startsFrame sync ws ≡ true) where
         let y : continues w ≡ true = ap (λ (x : ℕ). continues x) (sym d) ∙ and-right (confirmed sync (drop end ws)) _ i in
         let h : w ≡ getD ws (suc end) 0 = q ∙ ap (λ (x : ℕ). getD ws x 0) (add-one end) in
         let b : end + span w ≤ length ws = rw h (hit-within sync ws end (confirmed-there sync ws end c) c .0) in
-        let g : imageSize (size w) ≡ true =
-        rw d at (image-size sync (drop end ws) c (rw d (and-left (eqb (kind w) 0) (eqb (camera w) 0) y))) in
         let r : List Entry = ahead sync ws w (end + span w) in
         let e : ahead sync ws last end ≡ entry end w ∷ r =
         ap (λ (x : Bool). joining end x (listedFrom sync ws end)) f ∙ joining-step sync ws end w h c y in
         let z : next ≡ end + span w = omega (arith, n) in
-        let u : dataWords (unitsOf ws (ahead sync ws last end)) ≡ size w - 8 * ((size w + 263) / 264) + dataWords (unitsOf ws r) =
-        ap (λ (es : List Entry). dataWords (unitsOf ws es)) e ∙ data-more ws end w r b g in
+        let u : dataWords (unitsOf ws (ahead sync ws last end)) ≡ dataWordsIn (size w) + dataWords (unitsOf ws r) =
+        ap (λ (es : List Entry). dataWords (unitsOf ws es)) e ∙ data-more ws end w r b in
         rw z record {
           within = b;
           few = omega (arith, k .few);

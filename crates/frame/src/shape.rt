@@ -8,15 +8,11 @@ use chunk::header::HEADER;
 use health::packet;
 ghost use mathlib.Core.Path.{_≡_};
 ghost use mathlib.Core.Bool.{true};
-ghost use Prim.Native.Nat.{_+_, _-_, _*_, _/_};
 ghost use Rattle.chunk.specs.Header.{size, confirmed};
-ghost use Rattle.frame.specs.Shape.{starts, continues, whole, startsFrame, joinsFrame, closesFrame};
-ghost use Rattle.frame.specs.Replies.{described, reachOf};
-
-// the words of a whole unit, and its parity words
-pub const UNIT: usize = 264;
-
-const PARITY: usize = 8;
+ghost use Rattle.parity_units.specs.Split.{dataWordsIn};
+ghost use Rattle.frame.specs.Shape.{continues, whole};
+ghost use Rattle.frame.specs.Described.{described};
+ghost use Rattle.frame.specs.Walk.{startsFrame, joinsFrame, closesFrame, reachOf};
 
 // How far a frame reaches: its chunks, its words and its data words.
 pub struct Reach {
@@ -25,13 +21,7 @@ pub struct Reach {
     pub length: usize,
 }
 
-pub fn starts(header: u16) -> bool
-    ensures { λ r. ⌜ r ≡ starts header ⌝ }
-{
-    (header::kind_of(header) == 0) & (1 <= header::camera_of(header))
-}
-
-pub fn continues(header: u16) -> bool
+fn continues(header: u16) -> bool
     ensures { λ r. ⌜ r ≡ continues header ⌝ }
 {
     (header::kind_of(header) == 0) & (header::camera_of(header) == 0)
@@ -40,23 +30,14 @@ pub fn continues(header: u16) -> bool
 fn whole(header: u16) -> bool
     ensures { λ r. ⌜ r ≡ whole header ⌝ }
 {
-    header::size_of(header).0 % UNIT == 0
-}
-
-// How many units a payload of n words has.
-pub fn units_of(n: usize) -> usize
-    ensures { λ r. ⌜ r ≡ (n + 263) / 264 ⌝ }
-{
-    n / UNIT + (n % UNIT + (UNIT - 1)) / UNIT
+    header::size_of(header).0 % parity_units::UNIT == 0
 }
 
 // The data words of a chunk.
 fn data_of(header: u16) -> usize
-    ensures { λ r. ⌜ r ≡ size header - 8 * ((size header + 263) / 264) ⌝ }
+    ensures { λ r. ⌜ r ≡ dataWordsIn (size header) ⌝ }
 {
-    let n = header::size_of(header).0;
-    let parity = PARITY * units_of(n);
-    if n < parity { 0 } else { n - parity }
+    parity_units::data_words(header::size_of(header)).0
 }
 
 fn confirmed(words: &[u16], sync: u16) -> bool

@@ -21,11 +21,12 @@ use Rattle.chunk_laws.specs.Resync.{moved}
 use Rattle.chunk_laws.proofs.ByPlace.{listed-moved}
 use Rattle.frame.specs.declared.Piece.{Piece}
 use Rattle.frame.specs.declared.Piece.the-variants.{Whole, Stray, End as Nothing}
-use Rattle.frame.specs.Shape.{starts, continues, whole, joining, startsFrame, frameWords}
+use Rattle.frame.specs.Shape.{starts, continues, whole, joining, frameWords}
+use Rattle.frame.specs.Walk.{startsFrame}
 use Rattle.frame.specs.Pieces.{framesAndStrays, frameThere, strayThere, nextPiece}
 use Rattle.frame.proofs.Joining.{joining-one, listedFrom, Rest, rest}
 use Rattle.frame.proofs.Walking.{ahead, frame-is}
-use Rattle.frame.proofs.Stepping.{none, passed as health-passed, framed, strayed, frame-starts}
+use Rattle.frame.proofs.pieces.Stepping.{none, passed as health-passed, framed, strayed, frame-starts}
 use Rattle.frame_laws.specs.Pieces.{piecesFrom, Says}
 
 -- one listed chunk: whether it continues a frame, whether it joins the one in hand, whether it starts one

@@ -13,9 +13,10 @@ use Rattle.chunk.specs.Header.{kind}
 use Rattle.chunk.specs.Reading.{nextFrom, listedWords}
 use Rattle.chunk.proofs.Steps.{Next, stepped, past, found-end}
 use Rattle.frame.specs.declared.Piece.{Piece}
-use Rattle.frame.specs.Shape.{starts, startsFrame, frameWords}
+use Rattle.frame.specs.Shape.{starts, frameWords}
+use Rattle.frame.specs.Walk.{startsFrame}
 use Rattle.frame.specs.Pieces.{nextPiece}
-use Rattle.frame.proofs.Stepping.{none, passed, framed, strayed, frame-starts}
+use Rattle.frame.proofs.pieces.Stepping.{none, passed, framed, strayed, frame-starts}
 use Rattle.frame.proofs.Walking.{frame-is, ends}
 
 -- a place to go on from

@@ -17,7 +17,7 @@ use Rattle.health_last.specs.Last as last
 use Rattle.command.specs.Calls as command
 use Rattle.chunk_register.specs.Register as register
 use Rattle.chunk_outline.specs.Outline as outline
-use Rattle.frame.specs.Replies as frame
+use Rattle.frame_reading.specs.Replies as frame
 use Rattle.program_input.specs.Input as listing
 use Rattle.reel.specs.Reading as reelReading
 use Rattle.reel.specs.Writing as reelWriting

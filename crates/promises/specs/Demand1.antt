@@ -21,7 +21,7 @@ use Rattle.command.specs.declared.Fields.{Fields}
 use Rattle.command.specs.Calls as command
 use Rattle.chunk_register.specs.Register as register
 use Rattle.chunk_outline.specs.Outline as outline
-use Rattle.frame.specs.Replies as frame
+use Rattle.frame_reading.specs.Replies as frame
 use Rattle.program_input.specs.Input as listing
 use Rattle.reel.specs.Reading as reelReading
 use Rattle.reel.specs.Writing as reelWriting

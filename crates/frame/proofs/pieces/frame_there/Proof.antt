@@ -9,8 +9,9 @@ use Rattle.base.proofs.RoomLaws.{to-end}
 use Rattle.frame.specs.declared.Frame.{Frame}
 use Rattle.frame.specs.declared.Piece.{Piece}
 use Rattle.frame.specs.declared.shape.Reach.{Reach}
-use Rattle.frame.specs.Shape.{startsFrame, frameWords}
-use Rattle.frame.specs.Replies.{described, reachOf}
+use Rattle.frame.specs.Shape.{frameWords}
+use Rattle.frame.specs.Described.{described}
+use Rattle.frame.specs.Walk.{startsFrame, reachOf}
 use Rattle.frame.proofs.Walking.{long, ends}
 use borrow.Author.Needs.{needs}
 use Rattle.frame.proofs.pieces.frame_there.Statement.{statement}

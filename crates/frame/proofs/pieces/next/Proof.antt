@@ -8,7 +8,7 @@ use Rattle.chunk.specs.declared.Entry.{Entry}
 use Rattle.chunk.proofs.Steps.{Next, stepped, past}
 use Rattle.frame.specs.declared.Piece.{Piece}
 use Rattle.frame.specs.Pieces.{nextPiece}
-use Rattle.frame.proofs.Stepping.{none, passed, framed, strayed, frame-starts}
+use Rattle.frame.proofs.pieces.Stepping.{none, passed, framed, strayed, frame-starts}
 use Rattle.frame.proofs.pieces.next.Statement.{statement}
 use Rattle.frame.proofs.pieces.next.Tie as tie
 

@@ -7,7 +7,8 @@ use lib.ListN as ListN
 use borrow.Author.Needs.{needs}
 use Rattle.base.proofs.RoomLaws.{to-end}
 use Rattle.chunk.specs.Header.{size}
-use Rattle.frame.specs.Shape.{whole, joinsFrame}
+use Rattle.frame.specs.Shape.{whole}
+use Rattle.frame.specs.Walk.{joinsFrame}
 use Rattle.frame.proofs.Walking.{Walked, long, start, room, turn, done}
 use Rattle.frame.proofs.shape.measure.Statement.{statement}
 use Rattle.frame.proofs.shape.measure.Tie as tie
