@@ -14,7 +14,7 @@ use Rattle.base.proofs.Booleans.{and-left, and-right}
 use Rattle.chunk.specs.declared.Entry.{Entry}
 use Rattle.chunk.specs.declared.Found.{Found}
 use Rattle.chunk.specs.declared.Found.the-variants.{Chunk, End}
-use Rattle.chunk.specs.Header.{kind, camera, span}
+use Rattle.chunk.specs.Header.{size, kind, camera, span}
 use Rattle.chunk.specs.Reading.{entry, listed, nextFrom, listedWords}
 use Rattle.chunk.proofs.Steps.{past, Next, stepped, ended, found-end}
 use Rattle.chunk_laws.specs.Resync.{moved}
@@ -131,10 +131,10 @@ module _ (sync : ℕ) (ws : List ℕ) where
       let h : ℕ = getD v 1 0 in
       let l : listedFrom sync ws (p + span h) ≡ moved p (listedFrom sync v (span h)) =
       ap (listed sync (p + span h) 0) (sym (drop-drop (span h) p ws)) ∙ listed-moved sync p (span h) 0 (drop (span h) v) in
-      let w : listedWords (joining (p + span h) (whole h) (listedFrom sync ws (p + span h))) ≡ listedWords (ahead sync v h (span h)) =
+      let w : listedWords (joining (p + span h) (whole h) (listedFrom sync ws (p + span h))) ≡ listedWords (ahead sync v (size h) (span h)) =
       ap (λ (es : List Entry). listedWords (joining (p + span h) (whole h) es)) l
       ∙ ap listedWords (joining-moved p (span h) (whole h) (listedFrom sync v (span h)))
-      ∙ words-moved p (ahead sync v h (span h)) in
+      ∙ words-moved p (ahead sync v (size h) (span h)) in
       omega (arith, ap listedWords (frame-is sync v s), w)
 
   moves : (p q : ℕ) → piecesFrom sync ws p ≡ piecesFrom sync ws q → (x : Piece) → Says sync ws q x → Says sync ws p x
