@@ -40,34 +40,34 @@ module _ (sync : ℕ) (ws : List ℕ) (s : startsFrame sync ws ≡ true) where
   abbrev first : ℕ
   first = getD ws 1 0
 
-  begun : confirmed sync ws ≡ true
-  begun = and-left (confirmed sync ws) (starts first) s
+  first-confirmed : confirmed sync ws ≡ true
+  first-confirmed = and-left (confirmed sync ws) (starts first) s
 
-  inside : (0 + span first ≤ length ws) × (1 ≤ size first) × (size first ≤ 8184)
-  inside = hit-within sync ws 0 (confirmed-there sync ws 0 begun) begun
+  first-within : (0 + span first ≤ length ws) × (1 ≤ size first) × (size first ≤ 8184)
+  first-within = hit-within sync ws 0 (confirmed-there sync ws 0 first-confirmed) first-confirmed
 
   -- two words at the least
-  pub long : 2 < length ws
-  long = omega (arith, inside .0, inside .1)
+  pub longer-than-header : 2 < length ws
+  longer-than-header = omega (arith, first-within .0, first-within .1)
 
   -- the frame is its first chunk and what joins after it
-  pub frame-is : frameChunks sync ws ≡ entry 0 first ∷ ahead sync ws (size first) (span first)
+  pub first-and-ahead : frameChunks sync ws ≡ entry 0 first ∷ ahead sync ws (size first) (span first)
   unfolding frameChunks frameOf
-  frame-is =
-      ap frameOf (next-here sync ws 0 begun .lists)
+  first-and-ahead =
+      ap frameOf (next-here sync ws 0 first-confirmed .lists)
       ∙ ap (λ (n : ℕ). entry 0 first ∷ joining (span first) (whole first) (listedFrom sync ws n)) (zero-add (span first))
 
-  pub start : (n end sum : ℕ) → n ≡ size first → end ≡ 2 + n → sum ≡ dataWordsIn n → Walked sync ws n 1 end sum
+  pub first-walked : (n end sum : ℕ) → n ≡ size first → end ≡ 2 + n → sum ≡ dataWordsIn n → Walked sync ws n 1 end sum
   unfolding listedWords
-  start n end sum q e d =
+  first-walked n end sum q e d =
       let g : dataWordsIn n ≡ dataWordsIn (size first) = ap dataWordsIn q in
       let m : end ≡ span first = omega (arith, e, q) in
-      let l : length (frameChunks sync ws) ≡ suc (length (ahead sync ws (size first) (span first))) = ap length frame-is in
-      let w : frameWords sync ws ≡ span first + listedWords (ahead sync ws (size first) (span first)) = ap listedWords frame-is in
+      let l : length (frameChunks sync ws) ≡ suc (length (ahead sync ws (size first) (span first))) = ap length first-and-ahead in
+      let w : frameWords sync ws ≡ span first + listedWords (ahead sync ws (size first) (span first)) = ap listedWords first-and-ahead in
       let u : frameLength sync ws ≡ dataWordsIn (size first) + dataWords (unitsOf ws (ahead sync ws (size first) (span first))) =
-      ap (λ (es : List Entry). dataWords (unitsOf ws es)) frame-is ∙ data-more ws 0 first (ahead sync ws (size first) (span first)) (inside .0) in
+      ap (λ (es : List Entry). dataWords (unitsOf ws es)) first-and-ahead ∙ data-more ws 0 first (ahead sync ws (size first) (span first)) (first-within .0) in
       rw (m, q) record {
-        within = omega (arith, inside .0);
+        within = omega (arith, first-within .0);
         few = omega arith;
         short = omega (arith, d, g);
         count = omega (arith, l);
@@ -77,18 +77,18 @@ module _ (sync : ℕ) (ws : List ℕ) (s : startsFrame sync ws ≡ true) where
 
   module _ (n chunks end sum : ℕ) (k : Walked sync ws n chunks end sum) where
     -- a continuation that joins lies within the words
-    pub room : eqb (n % 264) 0 && joinsFrame sync (drop end ws) ≡ true → (end + 1 < length ws) × (end + 2 + size (getD ws (end + 1) 0) ≤ length ws)
-    room j =
+    pub joining-fits : eqb (n % 264) 0 && joinsFrame sync (drop end ws) ≡ true → (end + 1 < length ws) × (end + 2 + size (getD ws (end + 1) 0) ≤ length ws)
+    joining-fits j =
         let c : confirmed sync (drop end ws) ≡ true = and-left (confirmed sync (drop end ws)) _ (and-right (eqb (n % 264) 0) _ j) in
         let b = hit-within sync ws end (confirmed-there sync ws end c) c in
         let q : getD ws (suc end) 0 ≡ getD ws (end + 1) 0 = ap (λ (x : ℕ). getD ws x 0) (sym (add-one end)) in
         (omega (arith, b .0), omega (arith, b .0, ap size q))
 
     -- a continuation joins
-    pub turn : (w size′ next length′ : ℕ) → w ≡ getD ws (end + 1) 0 → size′ ≡ size w → eqb (n % 264) 0 && joinsFrame sync (drop end ws) ≡ true
+    pub one-more-walked : (w size′ next length′ : ℕ) → w ≡ getD ws (end + 1) 0 → size′ ≡ size w → eqb (n % 264) 0 && joinsFrame sync (drop end ws) ≡ true
         → next ≡ end + (2 + size′) → length′ ≡ sum + dataWordsIn size′ → Walked sync ws size′ (chunks + 1) next length′
     unfolding listedWords
-    turn w size′ next length′ q t j a m =
+    one-more-walked w size′ next length′ q t j a m =
         let o : dataWordsIn size′ ≡ dataWordsIn (size w) = ap dataWordsIn t in
         let f : eqb (n % 264) 0 ≡ true = and-left (eqb (n % 264) 0) _ j in
         let i : joinsFrame sync (drop end ws) ≡ true = and-right (eqb (n % 264) 0) _ j in
@@ -113,10 +113,10 @@ module _ (sync : ℕ) (ws : List ℕ) (s : startsFrame sync ws ≡ true) where
         }
 
     -- nothing more joins
-    pub done : eqb (n % 264) 0 && joinsFrame sync (drop end ws) ≡ false
+    pub all-walked : eqb (n % 264) 0 && joinsFrame sync (drop end ws) ≡ false
         → record { chunks = chunks; end = end; length = sum } ≡ reachOf sync ws
     unfolding listedWords unitsOf dataWords
-    done j =
+    all-walked j =
         let z : ahead sync ws n end ≡ [] = joining-stop sync ws end (eqb (n % 264) 0) (rw (getD-drop end ws 1 0, add-one) at j) in
         let a : chunks ≡ length (frameChunks sync ws) = omega (arith, k .count, ap length z) in
         let b : end ≡ frameWords sync ws = omega (arith, k .words, ap listedWords z) in
@@ -124,34 +124,34 @@ module _ (sync : ℕ) (ws : List ℕ) (s : startsFrame sync ws ≡ true) where
         cc
 
   -- the frame lies within the words
-  pub ends : frameWords sync ws ≤ length ws
+  pub frame-ends-inside : frameWords sync ws ≤ length ws
   unfolding listedWords
-  ends =
+  frame-ends-inside =
       let r : Rest sync ws (span first) (ahead sync ws (size first) (span first)) =
-      rest sync ws (length ws) (span first) (whole first) (omega arith) (omega (arith, inside .0)) in
-      omega (arith, r .within, ap listedWords frame-is)
+      rest sync ws (length ws) (span first) (whole first) (omega arith) (omega (arith, first-within .0)) in
+      omega (arith, r .within, ap listedWords first-and-ahead)
 
   -- whether the frame is complete is a question about the place where it ends
-  pub complete-at : complete sync ws ≡ closesFrame sync (drop (frameWords sync ws) ws) (frameCamera ws)
+  pub complete-at-end : complete sync ws ≡ closesFrame sync (drop (frameWords sync ws) ws) (frameCamera ws)
   unfolding complete listedWords
-  complete-at =
+  complete-at-end =
       let es : List Entry = ahead sync ws (size first) (span first) in
-      let r : Rest sync ws (span first) es = rest sync ws (length ws) (span first) (whole first) (omega arith) (omega (arith, inside .0)) in
-      let w : frameWords sync ws ≡ span first + listedWords es = ap listedWords frame-is in
+      let r : Rest sync ws (span first) es = rest sync ws (length ws) (span first) (whole first) (omega arith) (omega (arith, first-within .0)) in
+      let w : frameWords sync ws ≡ span first + listedWords es = ap listedWords first-and-ahead in
       let d : drop (length (frameChunks sync ws)) (reading sync ws) ≡ listedFrom sync ws (frameWords sync ws) =
-      ap (λ (n : ℕ). drop n (reading sync ws)) (ap length frame-is)
-      ∙ ap (drop (suc (length es))) (next-here sync ws 0 begun .lists ∙ ap (λ (n : ℕ). entry 0 first ∷ listedFrom sync ws n) (zero-add (span first)))
+      ap (λ (n : ℕ). drop n (reading sync ws)) (ap length first-and-ahead)
+      ∙ ap (drop (suc (length es))) (next-here sync ws 0 first-confirmed .lists ∙ ap (λ (n : ℕ). entry 0 first ∷ listedFrom sync ws n) (zero-add (span first)))
       ∙ r .on ∙ ap (listedFrom sync ws) (sym w) in
       ap (closes ws (frameWords sync ws) (frameCamera ws)) d ∙ closes-at sync (frameCamera ws) ws (frameWords sync ws)
       ∙ rw (getD-drop (frameWords sync ws) ws 1 0, add-one, drop-drop 2 (frameWords sync ws) ws)
 
   -- a frame is described by how far it reaches and what stands at its end
-  pub described-is : (r : Reach) (cam : ℕ) (b : Bool) → r ≡ reachOf sync ws → cam ≡ frameCamera ws
+  pub described-by-reach : (r : Reach) (cam : ℕ) (b : Bool) → r ≡ reachOf sync ws → cam ≡ frameCamera ws
       → b ≡ closesFrame sync (take (length ws - r .end) (drop (r .end) ws)) cam → frame 0 cam (r .chunks) b (r .length) ≡ described sync ws
   unfolding described
-  described-is r cam b e f g =
+  described-by-reach r cam b e f g =
       let n : r .end ≡ frameWords sync ws = ap (λ (x : Reach). x .end) e in
       let w : b ≡ complete sync ws =
       g ∙ ap (λ (x : List ℕ). closesFrame sync x cam) (to-end (r .end) ws ∙ ap (λ (m : ℕ). drop m ws) n)
-      ∙ ap (λ (x : ℕ). closesFrame sync (drop (frameWords sync ws) ws) x) f ∙ sym complete-at in
+      ∙ ap (λ (x : ℕ). closesFrame sync (drop (frameWords sync ws) ws) x) f ∙ sym complete-at-end in
       rw (e, f, w)

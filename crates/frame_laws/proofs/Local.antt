@@ -28,7 +28,7 @@ use Rattle.frame.specs.Walk.{startsFrame}
 use Rattle.frame.specs.Pieces.{framesAndStrays}
 use Rattle.frame.proofs.Joining.{joining-one, listedFrom}
 use Rattle.frame.proofs.Chunks.{payload-length}
-use Rattle.frame.proofs.Walking.{frame-is, ends as frame-ends}
+use Rattle.frame.proofs.Walking.{first-and-ahead, frame-ends-inside}
 use Rattle.frame_laws.specs.Local.{EndToEnd, Local, NoneEnds, StrayAfterGap}
 use Rattle.frame_laws.proofs.Pieces.{pick, pieces-one}
 
@@ -178,7 +178,7 @@ module _ (sync : ℕ) (ws : List ℕ) (s : startsFrame sync ws ≡ true) where
   end-to-end =
       let h : ℕ = getD ws 1 0 in
       let j = joined (span h) (whole h) (listedFrom sync ws (span h)) in
-      subst (EndToEnd 0) (sym (frame-is sync ws s)) (refl, rw (zero-add (span h)) (j .endToEnd))
+      subst (EndToEnd 0) (sym (first-and-ahead sync ws s)) (refl, rw (zero-add (span h)) (j .endToEnd))
 
   stand : (e : Entry) → e ∈ fs → Stands sync ws e
   unfolding frameChunks
@@ -194,7 +194,7 @@ module _ (sync : ℕ) (ws : List ℕ) (s : startsFrame sync ws ≡ true) where
   same-units : frameUnits sync own ≡ frameUnits sync ws
   same-units =
       ap (unitsOf own) same-chunks
-      ∙ units-within (frameWords sync ws) ws (frame-ends sync ws s) 0 fs end-to-end (omega arith)
+      ∙ units-within (frameWords sync ws) ws (frame-ends-inside sync ws s) 0 fs end-to-end (omega arith)
 
   pub local : Local sync ws
   local = record {

@@ -35,7 +35,7 @@ use Rattle.frame.specs.Described.{frame, described}
 use Rattle.frame.specs.Walk.{startsFrame, closesFrame}
 use Rattle.frame_reading.specs.Replies.{refused, noFrame, atCauses, judgeCauses, readCauses, atReply, judgeReply, readReply, readRoom}
 use Rattle.frame.proofs.Joining.{joining-one}
-use Rattle.frame.proofs.Walking.{complete-at}
+use Rattle.frame.proofs.Walking.{complete-at-end}
 use Rattle.frame_laws.specs.Written.{joined, unitRow, Hold, frameRow, writable, fullButLast, allUnits, Written, recordingOf, ComesBack, FramesComeBack}
 
 -- ---- a payload splits into its units
@@ -238,7 +238,7 @@ module _ (sync cam : ℕ) (us : List (List ℕ)) (uss : List (List (List ℕ))) 
       let e : drop (frameWords sync here) here ≡ words sync (closing ∷ after) =
       ap (λ (n : ℕ). drop n here) (ap listedWords own-chunks ∙ row-words sync 0 row row-whole) ∙ row-at sync row (closing ∷ after) refl in
       let f : frameCamera here ≡ cam = camera-written 0 cam (joined us) first-taken in
-      complete-at sync here frame-starts ∙ ap₂ (closesFrame sync) e f
+      complete-at-end sync here frame-starts ∙ ap₂ (closesFrame sync) e f
       ∙ rw (
         row-confirmed sync closing after rest-whole,
         kind-written 1 0 health (w .closing),

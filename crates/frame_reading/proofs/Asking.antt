@@ -29,8 +29,8 @@ use Rattle.frame.specs.Walk.{startsFrame}
 use Rattle.frame_reading.specs.Along.{wordsAlong, unitsAlong}
 use Rattle.frame_reading.specs.Replies.{refused, atCauses, atReply, judgeCauses, judgeReply, readCauses, readReply, readRoom}
 use Rattle.frame.proofs.Joining.{confirmed-there, next-here}
-use Rattle.frame.proofs.Walking.{long}
-use Rattle.frame.proofs.pieces.Stepping.{framed}
+use Rattle.frame.proofs.Walking.{longer-than-header}
+use Rattle.frame.proofs.pieces.Stepping.{frame-next}
 use Rattle.frame_reading.proofs.Rows.{frame-units, frame-within, frame-data}
 
 -- ---- the place
@@ -40,7 +40,7 @@ first-piece : (sync : ℕ) (vs : List ℕ) → startsFrame sync vs ≡ true → 
 first-piece sync vs s =
     let h : ℕ = getD vs 1 0 in
     let t : starts h ≡ true = and-right (confirmed sync vs) (starts h) s in
-    framed sync vs 0 (entry 0 h) (next-here sync vs 0 (and-left (confirmed sync vs) (starts h) s))
+    frame-next sync vs 0 (entry 0 h) (next-here sync vs 0 (and-left (confirmed sync vs) (starts h) s))
     (eqb-true (kind h) 0 (and-left (eqb (kind h) 0) (leb 1 (camera h)) t)) t
 
 module _ (sync p : ℕ) (ws : List ℕ) where
@@ -82,7 +82,7 @@ module _ (sync p : ℕ) (ws : List ℕ) where
         ap₂ _&&_ (listed-confirmed (and-left (listedAt sync ws p) (starts (getD here 1 0)) b)) (and-right (listedAt sync ws p) (starts (getD here 1 0)) b)
 
     pub place-inside : p ≤ length ws
-    place-inside = omega (arith, long sync here starts-here, length-drop p ws)
+    place-inside = omega (arith, longer-than-header sync here starts-here, length-drop p ws)
 
     module _ (x : Piece) (q : x ≡ nextPiece sync part 0) where
       piece-here : x ≡ frameThere sync here 0
@@ -106,32 +106,32 @@ module _ (sync p : ℕ) (ws : List ℕ) where
       ap refused e ∙ sym (answer-no (verdict (atCauses sync ws p)) refused (described sync here) (λ z. h (e ∙ z)))
 
   -- the number in a reply, and the reply where it is 0
-  number : (v : ℕ) → answer v refused (described sync here) .refusal ≡ v
+  refusal-of-answer : (v : ℕ) → answer v refused (described sync here) .refusal ≡ v
   unfolding answer described
-  number v = by-test (eqb v 0) refl
+  refusal-of-answer v = by-test (eqb v 0) refl
     where
       by-test : (b : Bool) → eqb v 0 ≡ b → cond b (described sync here) (refused v) .refusal ≡ v
       by-test true e = sym (eqb-true v 0 e)
       by-test false e = refl
 
   module _ (cs : Causes) (r : Frame) (e : r ≡ answer (verdict cs) refused (described sync here)) where
-    of-reply : r .refusal ≡ verdict cs
-    of-reply = ap (λ (f : Frame). f .refusal) e ∙ number (verdict cs)
+    refusal-in-reply : r .refusal ≡ verdict cs
+    refusal-in-reply = ap (λ (f : Frame). f .refusal) e ∙ refusal-of-answer (verdict cs)
 
     -- a refusal stands, whatever further causes there are
-    kept : (ds : Causes) → (r .refusal ≡ 0 → ⊥) → r ≡ answer (verdict (cs ++ ds)) refused (described sync here)
-    kept ds h = e ∙ ap (λ (v : ℕ). answer v refused (described sync here)) (sym (verdict-kept cs ds (λ z. h (of-reply ∙ z))))
+    refusal-kept : (ds : Causes) → (r .refusal ≡ 0 → ⊥) → r ≡ answer (verdict (cs ++ ds)) refused (described sync here)
+    refusal-kept ds h = e ∙ ap (λ (v : ℕ). answer v refused (described sync here)) (sym (verdict-kept cs ds (λ z. h (refusal-in-reply ∙ z))))
 
     module _ (z : r .refusal ≡ 0) where
-      none : verdict cs ≡ 0
-      none = sym of-reply ∙ z
+      nothing-refused : verdict cs ≡ 0
+      nothing-refused = sym refusal-in-reply ∙ z
 
-      whole : r ≡ described sync here
-      whole = e ∙ answer-yes (verdict cs) refused (described sync here) none
+      reply-described : r ≡ described sync here
+      reply-described = e ∙ answer-yes (verdict cs) refused (described sync here) nothing-refused
 
       -- else the further causes decide
-      further : (ds : Causes) → numbered cs ≡ true → answer (verdict ds) refused r ≡ answer (verdict (cs ++ ds)) refused (described sync here)
-      further ds k = ap₂ (λ (v : ℕ) (f : Frame). answer v refused f) (sym (verdict-further cs ds k none)) whole
+      further-causes : (ds : Causes) → numbered cs ≡ true → answer (verdict ds) refused r ≡ answer (verdict (cs ++ ds)) refused (described sync here)
+      further-causes ds k = ap₂ (λ (v : ℕ) (f : Frame). answer v refused f) (sym (verdict-further cs ds k nothing-refused)) reply-described
 
   -- the chunks of a frame that starts here, as many as it says
   module _ (s : startsFrame sync here ≡ true) (r : Frame) (e : r ≡ described sync here) where
@@ -155,49 +155,49 @@ module _ (sync p : ℕ) (ws : List ℕ) where
   module _ (r : Frame) (e : r ≡ atReply sync ws p) where
     pub judge-kept : (r .refusal ≡ 0 → ⊥) → r ≡ judgeReply sync ws p
     unfolding judgeReply atReply
-    judge-kept = kept (atCauses sync ws p) r e cutOrDamaged
+    judge-kept = refusal-kept (atCauses sync ws p) r e cutOrDamaged
 
     module _ (z : r .refusal ≡ 0) where
-      unrefused : verdict (atCauses sync ws p) ≡ 0
+      at-accepted : verdict (atCauses sync ws p) ≡ 0
       unfolding atReply
-      unrefused = none (atCauses sync ws p) r e z
+      at-accepted = nothing-refused (atCauses sync ws p) r e z
 
       as-described : r ≡ described sync here
       unfolding atReply
-      as-described = whole (atCauses sync ws p) r e z
+      as-described = reply-described (atCauses sync ws p) r e z
 
       pub judged-inside : p ≤ length ws
-      judged-inside = place-inside unrefused
+      judged-inside = place-inside at-accepted
 
       pub chunks-within : wordsAlong (r .chunks) part ≤ length part
-      chunks-within = within-here (starts-here unrefused) r as-described
+      chunks-within = within-here (starts-here at-accepted) r as-described
 
-      so-far : answer (verdict cutOrDamaged) refused r ≡ judgeReply sync ws p
+      by-cut-and-damage : answer (verdict cutOrDamaged) refused r ≡ judgeReply sync ws p
       unfolding judgeReply atReply
-      so-far = further (atCauses sync ws p) r e z cutOrDamaged refl
+      by-cut-and-damage = further-causes (atCauses sync ws p) r e z cutOrDamaged refl
 
-      said : r .complete ≡ complete sync here
+      complete-here : r .complete ≡ complete sync here
       unfolding described
-      said = ap (λ (f : Frame). f .complete) as-described
+      complete-here = ap (λ (f : Frame). f .complete) as-described
 
       pub cut : r .complete ≡ false → refused frameCut ≡ judgeReply sync ws p
       unfolding answer
-      cut c = ap (λ (b : Bool). answer (verdict ((frameCut, not b) ∷ (wrongParity, anyDamaged (frameUnits sync here)) ∷ [])) refused r) (sym c ∙ said) ∙ so-far
+      cut c = ap (λ (b : Bool). answer (verdict ((frameCut, not b) ∷ (wrongParity, anyDamaged (frameUnits sync here)) ∷ [])) refused r) (sym c ∙ complete-here) ∙ by-cut-and-damage
 
       module _ (c : r .complete ≡ true) (b : Bool) (d : b ≡ anyDamaged (unitsAlong (r .chunks) part)) where
-        so-judged : answer (verdict ((frameCut, not true) ∷ (wrongParity, b) ∷ [])) refused r ≡ judgeReply sync ws p
-        so-judged =
-            ap₂ (λ (x y : Bool). answer (verdict ((frameCut, not x) ∷ (wrongParity, y) ∷ [])) refused r) (sym c ∙ said)
-            (d ∙ ap anyDamaged (units-here (starts-here unrefused) r as-described))
-            ∙ so-far
+        by-damage : answer (verdict ((frameCut, not true) ∷ (wrongParity, b) ∷ [])) refused r ≡ judgeReply sync ws p
+        by-damage =
+            ap₂ (λ (x y : Bool). answer (verdict ((frameCut, not x) ∷ (wrongParity, y) ∷ [])) refused r) (sym c ∙ complete-here)
+            (d ∙ ap anyDamaged (units-here (starts-here at-accepted) r as-described))
+            ∙ by-cut-and-damage
 
         pub damaged : b ≡ true → refused wrongParity ≡ judgeReply sync ws p
         unfolding answer
-        damaged t = ap (λ (x : Bool). answer (verdict ((frameCut, not true) ∷ (wrongParity, x) ∷ [])) refused r) (sym t) ∙ so-judged
+        damaged t = ap (λ (x : Bool). answer (verdict ((frameCut, not true) ∷ (wrongParity, x) ∷ [])) refused r) (sym t) ∙ by-damage
 
         pub undamaged : b ≡ false → r ≡ judgeReply sync ws p
         unfolding answer
-        undamaged t = ap (λ (x : Bool). answer (verdict ((frameCut, not true) ∷ (wrongParity, x) ∷ [])) refused r) (sym t) ∙ so-judged
+        undamaged t = ap (λ (x : Bool). answer (verdict ((frameCut, not true) ∷ (wrongParity, x) ∷ [])) refused r) (sym t) ∙ by-damage
 
   -- ---- its data
 
@@ -207,22 +207,22 @@ module _ (sync p : ℕ) (ws : List ℕ) where
   module _ (m : ℕ) (r : Frame) (e : r ≡ judgeReply sync ws p) where
     pub look-kept : (r .refusal ≡ 0 → ⊥) → r ≡ readReply sync ws p m
     unfolding judgeReply readReply
-    look-kept = kept (judgeCauses sync ws p) r e (tooSmall m)
+    look-kept = refusal-kept (judgeCauses sync ws p) r e (tooSmall m)
 
     module _ (z : r .refusal ≡ 0) where
-      so-looked : answer (verdict ((noRoom, ltb m (r .length .0)) ∷ [])) refused r ≡ readReply sync ws p m
+      by-room : answer (verdict ((noRoom, ltb m (r .length .0)) ∷ [])) refused r ≡ readReply sync ws p m
       unfolding judgeReply readReply described
-      so-looked =
-          ap (λ (n : ℕ). answer (verdict ((noRoom, ltb m n) ∷ [])) refused r) (ap (λ (f : Frame). f .length .0) (whole (judgeCauses sync ws p) r e z))
-          ∙ further (judgeCauses sync ws p) r e z (tooSmall m) refl
+      by-room =
+          ap (λ (n : ℕ). answer (verdict ((noRoom, ltb m n) ∷ [])) refused r) (ap (λ (f : Frame). f .length .0) (reply-described (judgeCauses sync ws p) r e z))
+          ∙ further-causes (judgeCauses sync ws p) r e z (tooSmall m) refl
 
       pub too-small : m < r .length .0 → refused noRoom ≡ readReply sync ws p m
       unfolding answer
-      too-small h = ap (λ (b : Bool). answer (cond b noRoom 0) refused r) (sym (lt-ltb m (r .length .0) h)) ∙ so-looked
+      too-small h = ap (λ (b : Bool). answer (cond b noRoom 0) refused r) (sym (lt-ltb m (r .length .0) h)) ∙ by-room
 
       pub enough : r .length .0 ≤ m → r ≡ readReply sync ws p m
       unfolding answer
-      enough h = ap (λ (b : Bool). answer (cond b noRoom 0) refused r) (sym (le-ltb m (r .length .0) h)) ∙ so-looked
+      enough h = ap (λ (b : Bool). answer (cond b noRoom 0) refused r) (sym (le-ltb m (r .length .0) h)) ∙ by-room
 
   module _ (room : List ℕ) (r : Frame) (e : r ≡ readReply sync ws p (length room)) where
     abbrev causes : Causes
@@ -231,35 +231,35 @@ module _ (sync p : ℕ) (ws : List ℕ) where
     pub untouched : (r .refusal ≡ 0 → ⊥) → room ≡ readRoom sync ws p room
     unfolding readReply readRoom
     untouched h =
-        sym (answer-no (verdict causes) (λ v. room) (put (frameData sync here) 0 room) (λ z. h (of-reply causes r e ∙ z)))
+        sym (answer-no (verdict causes) (λ v. room) (put (frameData sync here) 0 room) (λ z. h (refusal-in-reply causes r e ∙ z)))
 
     module _ (z : r .refusal ≡ 0) where
-      accepted : verdict causes ≡ 0
+      read-accepted : verdict causes ≡ 0
       unfolding readReply
-      accepted = none causes r e z
+      read-accepted = nothing-refused causes r e z
 
-      none-at : verdict (atCauses sync ws p) ≡ 0
-      none-at = let s = spared causes refl accepted in rw (s .0, s .1 .0)
+      at-accepted-too : verdict (atCauses sync ws p) ≡ 0
+      at-accepted-too = let s = spared causes refl read-accepted in rw (s .0, s .1 .0)
 
       as-read : r ≡ described sync here
       unfolding readReply
-      as-read = whole causes r e z
+      as-read = reply-described causes r e z
 
       units-read : unitsAlong (r .chunks) part ≡ frameUnits sync here
-      units-read = units-here (starts-here none-at) r as-read
+      units-read = units-here (starts-here at-accepted-too) r as-read
 
       pub read-inside : p ≤ length ws
-      read-inside = place-inside none-at
+      read-inside = place-inside at-accepted-too
 
       -- what is asked for the data
       pub ready : (wordsAlong (r .chunks) part ≤ length part) × (dataWords (unitsAlong (r .chunks) part) ≤ length room)
       ready =
-          let n : frameLength sync here ≤ length room = ltb-false (length room) (frameLength sync here) (spared causes refl accepted .1 .1 .1 .1 .0) in
-          (within-here (starts-here none-at) r as-read, omega (arith, ap dataWords units-read))
+          let n : frameLength sync here ≤ length room = ltb-false (length room) (frameLength sync here) (spared causes refl read-accepted .1 .1 .1 .1 .0) in
+          (within-here (starts-here at-accepted-too) r as-read, omega (arith, ap dataWords units-read))
 
       pub written : (room₁ : List ℕ) → room₁ ≡ put (givenData (unitsAlong (r .chunks) part)) 0 room → room₁ ≡ readRoom sync ws p room
       unfolding readRoom
       written room₁ w =
-          let d : anyDamaged (frameUnits sync here) ≡ false = spared causes refl accepted .1 .1 .1 .0 in
-          w ∙ ap (λ (x : List ℕ). put x 0 room) (ap givenData units-read ∙ frame-data sync here (starts-here none-at) d)
-          ∙ sym (answer-yes (verdict causes) (λ v. room) (put (frameData sync here) 0 room) accepted)
+          let d : anyDamaged (frameUnits sync here) ≡ false = spared causes refl read-accepted .1 .1 .1 .0 in
+          w ∙ ap (λ (x : List ℕ). put x 0 room) (ap givenData units-read ∙ frame-data sync here (starts-here at-accepted-too) d)
+          ∙ sym (answer-yes (verdict causes) (λ v. room) (put (frameData sync here) 0 room) read-accepted)

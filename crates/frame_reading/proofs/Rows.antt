@@ -24,7 +24,7 @@ use Rattle.frame.specs.Picture.{payloadOf, chunkUnits, unitsOf, frameUnits, fra
 use Rattle.frame.specs.Walk.{startsFrame}
 use Rattle.frame.proofs.Joining.{listedFrom, confirmed-there, joining-step, joining-stop}
 use Rattle.frame.proofs.Chunks.{image-size, payload-length}
-use Rattle.frame.proofs.Walking.{frame-is, ends}
+use Rattle.frame.proofs.Walking.{first-and-ahead, frame-ends-inside}
 use Rattle.frame_reading.specs.Along.{wordsAlong, unitsAlong}
 
 pub record Placed (ws : List ℕ) (at : ℕ) (e : Entry) : Type 0 where
@@ -70,7 +70,7 @@ module _ (sync : ℕ) (ws : List ℕ) where
       let c : confirmed sync ws ≡ true = and-left (confirmed sync ws) (starts w) s in
       let i : eqb (kind w) 0 ≡ true = and-left (eqb (kind w) 0) (leb 1 (camera w)) (and-right (confirmed sync ws) (starts w) s) in
       let n : span w ≡ 0 + span w = sym (zero-add (span w)) in
-      subst (Row ws 0) (sym (frame-is sync ws s)) (
+      subst (Row ws 0) (sym (first-and-ahead sync ws s)) (
         placed 0 c i,
         subst (λ (m : ℕ). Row ws m (joining (span w) (whole w) (listedFrom sync ws (span w)))) n
             (joining-row (length ws) (span w) (whole w) (omega arith)),
@@ -114,14 +114,14 @@ row-along ws at (e ∷ es) r =
 -- ---- the frame at the front of these words
 
 module _ (sync : ℕ) (ws : List ℕ) (s : startsFrame sync ws ≡ true) where
-  along : Along ws 0 (frameChunks sync ws)
-  along = row-along ws 0 (frameChunks sync ws) (frame-row sync ws s)
+  frame-along : Along ws 0 (frameChunks sync ws)
+  frame-along = row-along ws 0 (frameChunks sync ws) (frame-row sync ws s)
 
   pub frame-units : unitsAlong (length (frameChunks sync ws)) ws ≡ frameUnits sync ws
-  frame-units = along .units
+  frame-units = frame-along .units
 
   pub frame-within : wordsAlong (length (frameChunks sync ws)) ws ≤ length ws
-  frame-within = omega (arith, along .words, ends sync ws s)
+  frame-within = omega (arith, frame-along .words, frame-ends-inside sync ws s)
 
   pub frame-data : anyDamaged (frameUnits sync ws) ≡ false → givenData (frameUnits sync ws) ≡ frameData sync ws
-  frame-data d = given-all (frameUnits sync ws) (along .fair) d
+  frame-data d = given-all (frameUnits sync ws) (frame-along .fair) d

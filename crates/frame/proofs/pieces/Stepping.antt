@@ -20,37 +20,37 @@ use Rattle.frame.specs.Pieces.{frameThere, strayThere, firstPiece, nextP
 use Rattle.frame.proofs.Joining.{listedFrom}
 
 -- one listed chunk, by whether it is an image chunk
-first-one : (sync : ℕ) (ws : List ℕ) (e : Entry) (es : List Entry) (b : Bool) → eqb (kind (e .header)) 0 ≡ b
+first-by-kind : (sync : ℕ) (ws : List ℕ) (e : Entry) (es : List Entry) (b : Bool) → eqb (kind (e .header)) 0 ≡ b
     → firstPiece sync ws (e ∷ es) ≡ cond b (cond (starts (e .header)) (frameThere sync ws (e .position .0)) (strayThere e)) (firstPiece sync ws es)
 unfolding firstPiece
-first-one sync ws e es true q =
+first-by-kind sync ws e es true q =
     ap (λ (b : Bool). elim b as (λ x. Piece) [ true ↦ cond (starts (e .header)) (frameThere sync ws (e .position .0)) (strayThere e) | false ↦ firstPiece sync ws es ]) q
-first-one sync ws e es false q =
+first-by-kind sync ws e es false q =
     ap (λ (b : Bool). elim b as (λ x. Piece) [ true ↦ cond (starts (e .header)) (frameThere sync ws (e .position .0)) (strayThere e) | false ↦ firstPiece sync ws es ]) q
 
 module _ (sync : ℕ) (ws : List ℕ) (p : ℕ) where
-  pub none : nextFrom sync ws p ≡ Found.End → nextPiece sync ws p ≡ Piece.End
+  pub no-piece : nextFrom sync ws p ≡ Found.End → nextPiece sync ws p ≡ Piece.End
   unfolding firstPiece
-  none f = ap (firstPiece sync ws) (ended sync ws p f .lists)
+  no-piece f = ap (firstPiece sync ws) (ended sync ws p f .lists)
 
   module _ (e : Entry) (n : Next sync ws p e) where
-    decides : (b : Bool) → eqb (kind (e .header)) 0 ≡ b
+    next-by-kind : (b : Bool) → eqb (kind (e .header)) 0 ≡ b
         → nextPiece sync ws p ≡ cond b (cond (starts (e .header)) (frameThere sync ws (e .position .0)) (strayThere e)) (nextPiece sync ws (past e))
-    decides b q = ap (firstPiece sync ws) (n .lists) ∙ first-one sync ws e (listedFrom sync ws (past e)) b q
+    next-by-kind b q = ap (firstPiece sync ws) (n .lists) ∙ first-by-kind sync ws e (listedFrom sync ws (past e)) b q
 
     -- a health chunk is passed
-    pub passed : (kind (e .header) ≡ 0 → ⊥) → nextPiece sync ws p ≡ nextPiece sync ws (past e)
-    passed h = decides false (ne-eqb (kind (e .header)) 0 h)
+    pub health-passed : (kind (e .header) ≡ 0 → ⊥) → nextPiece sync ws p ≡ nextPiece sync ws (past e)
+    health-passed h = next-by-kind false (ne-eqb (kind (e .header)) 0 h)
 
     module _ (h : kind (e .header) ≡ 0) where
-      image : nextPiece sync ws p ≡ cond (starts (e .header)) (frameThere sync ws (e .position .0)) (strayThere e)
-      image = decides true (eq-eqb (kind (e .header)) 0 h)
+      image-next : nextPiece sync ws p ≡ cond (starts (e .header)) (frameThere sync ws (e .position .0)) (strayThere e)
+      image-next = next-by-kind true (eq-eqb (kind (e .header)) 0 h)
 
-      pub framed : starts (e .header) ≡ true → nextPiece sync ws p ≡ frameThere sync ws (e .position .0)
-      framed s = image ∙ ap (λ (b : Bool). cond b (frameThere sync ws (e .position .0)) (strayThere e)) s
+      pub frame-next : starts (e .header) ≡ true → nextPiece sync ws p ≡ frameThere sync ws (e .position .0)
+      frame-next s = image-next ∙ ap (λ (b : Bool). cond b (frameThere sync ws (e .position .0)) (strayThere e)) s
 
-      pub strayed : starts (e .header) ≡ false → nextPiece sync ws p ≡ strayThere e
-      strayed s = image ∙ ap (λ (b : Bool). cond b (frameThere sync ws (e .position .0)) (strayThere e)) s
+      pub stray-next : starts (e .header) ≡ false → nextPiece sync ws p ≡ strayThere e
+      stray-next s = image-next ∙ ap (λ (b : Bool). cond b (frameThere sync ws (e .position .0)) (strayThere e)) s
 
     -- a frame starts at the place of a chunk that starts one
     pub frame-starts : starts (e .header) ≡ true → startsFrame sync (drop (e .position .0) ws) ≡ true

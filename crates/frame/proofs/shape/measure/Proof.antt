@@ -9,7 +9,7 @@ use borrow.Author.Needs.{needs}
 use Rattle.base.proofs.RoomLaws.{to-end}
 use Rattle.chunk.specs.Header as header
 use Rattle.frame.specs.Walk.{joinsFrame}
-use Rattle.frame.proofs.Walking.{Walked, long, start, room, turn, done}
+use Rattle.frame.proofs.Walking.{Walked, longer-than-header, first-walked, joining-fits, one-more-walked, all-walked}
 use Rattle.frame.proofs.shape.measure.Statement.{statement}
 use Rattle.frame.proofs.shape.measure.Tie as tie
 
@@ -20,7 +20,7 @@ abbrev μ-loop : tie.MeasureT-loop
 μ-loop words sync size₀ chunks₀ end₀ length₀ size chunks end length = ListN.length words - end
 
 shared-slice-read-size-of : tie.Need-shared-slice-read-size-of Inv-loop μ-loop
-shared-slice-read-size-of c = let l = long _ _ (c .before .before .pre) in omega arith
+shared-slice-read-size-of c = let l = longer-than-header _ _ (c .before .before .pre) in omega arith
 
 add-end : tie.Need-add-end Inv-loop μ-loop
 add-end c = omega (arith, c .size-of .ensures)
@@ -28,7 +28,7 @@ add-end c = omega (arith, c .size-of .ensures)
 loop-holds : tie.Need-loop-holds Inv-loop μ-loop
 loop-holds c =
     let a = c .before .before .before .before in
-    start (a .args .sync) (a .args .words .now) (a .pre) _ _ _ (c .before .size-of .ensures) refl (c .data-words .ensures)
+    first-walked (a .args .sync) (a .args .words .now) (a .pre) _ _ _ (c .before .size-of .ensures) refl (c .data-words .ensures)
 
 -- the loop's test is whether a continuation joins
 module _ (c : tie.After-joins Inv-loop μ-loop) where
@@ -50,7 +50,7 @@ inside : (c : tie.Then1 Inv-loop μ-loop) → (l (c .before) .loop .end + 1 < Li
     ≤ ListN.length (a (c .before) .args .words .now))
 inside c =
     let t = c .before in
-    room (a t .args .sync) (a t .args .words .now) (a t .pre) _ _ _ _ (l t .loop .inv) (tested t ∙ c .if1 .taken)
+    joining-fits (a t .args .sync) (a t .args .words .now) (a t .pre) _ _ _ _ (l t .loop .inv) (tested t ∙ c .if1 .taken)
 
 add-size-of : tie.Need-add-size-of Inv-loop μ-loop
 add-size-of c = omega (arith, inside c .0)
@@ -78,13 +78,13 @@ loop-less c = omega (arith, inside (c .before .before .before .before) .1, c .be
 loop-again : tie.Need-loop-again Inv-loop μ-loop
 loop-again c =
     let t = c .before .before .before .before .before in
-    turn (a t .args .sync) (a t .args .words .now) (a t .pre) _ _ _ _ (l t .loop .inv) _ _ _ _ refl (c .before .before .size-of2 .ensures)
+    one-more-walked (a t .args .sync) (a t .args .words .now) (a t .pre) _ _ _ _ (l t .loop .inv) _ _ _ _ refl (c .before .before .size-of2 .ensures)
     (tested t ∙ c .before .before .before .before .if1 .taken) refl (ap (λ (n : ℕ). l t .loop .length + n) (c .before .data-words2 .ensures))
 
 returns : tie.Need-returns Inv-loop μ-loop
 returns c =
     let t = c .before in
-    done (a t .args .sync) (a t .args .words .now) (a t .pre) _ _ _ _ (l t .loop .inv) (tested t ∙ c .if1 .left)
+    all-walked (a t .args .sync) (a t .args .words .now) (a t .pre) _ _ _ _ (l t .loop .inv) (tested t ∙ c .if1 .left)
 
 pub measure-spec : {M : Type 1} → statement M
 measure-spec =
