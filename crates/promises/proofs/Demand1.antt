@@ -5,8 +5,9 @@ use mathlib.Core.List.{List, []}
 use lib.ListN.{length}
 use Rattle.base.specs.Refusal.{Causes, verdict, answer, settled}
 use Rattle.base.proofs.Refused.{answer-no}
-use Rattle.chunk.specs.Replies.{surveyCauses, atCauses}
-use Rattle.chunk.specs.Writing as chunk
+use Rattle.chunk_reading.specs.Counting.{surveyCauses}
+use Rattle.chunk_reading.specs.Place.{atCauses}
+use Rattle.chunk_writing.specs.Writing as chunk
 use Rattle.parity.specs.Unit as parity
 use Rattle.health.specs.Reading as packet
 use Rattle.health.specs.Writing as health
@@ -21,7 +22,7 @@ use Rattle.chunk_outline.specs.Outline as outline
 use Rattle.frame_reading.specs.Replies as frame
 use Rattle.program_input.specs.Input as input
 use Rattle.reel.specs.Reading as reelReading
-use Rattle.reel.specs.Writing as reelWriting
+use Rattle.reel_writing.specs.Writing as reelWriting
 use Rattle.health_last.specs.declared.Place.{Place}
 use Rattle.promises.specs.Demand1.{Determined, Ordered, Refuses, Spares, Refusing}
 

@@ -8,8 +8,9 @@ use mathlib.Core.List.{List, []}
 use lib.ListN.{length}
 use Rattle.base.specs.Refusal.{Causes, followsPaper, verdict, wrote}
 use Rattle.chunk.specs.declared.Entry.{Entry}
-use Rattle.chunk.specs.Replies.{surveyCauses, atCauses, surveyed, surveyReply, heading, atReply, payloadReply}
-use Rattle.chunk.specs.Writing as chunk
+use Rattle.chunk_reading.specs.Counting.{surveyCauses, surveyed, surveyReply}
+use Rattle.chunk_reading.specs.Place.{atCauses, heading, atReply, payloadReply}
+use Rattle.chunk_writing.specs.Writing as chunk
 use Rattle.parity.specs.Unit as parity
 use Rattle.health.specs.Reading as packet
 use Rattle.health.specs.Writing as health
@@ -25,7 +26,7 @@ use Rattle.chunk_outline.specs.Outline as outline
 use Rattle.frame_reading.specs.Replies as frame
 use Rattle.program_input.specs.Input as input
 use Rattle.reel.specs.Reading as reelReading
-use Rattle.reel.specs.Writing as reelWriting
+use Rattle.reel_writing.specs.Writing as reelWriting
 
 -- ---- one answer only
 
