@@ -22,7 +22,7 @@ use Rattle.command_writing.specs.Writing.{countWrong, askCauses, writeReply, wr
 use Rattle.command_writing.proofs.Replies.{reply-number, command-fits, stored}
 use Rattle.base.proofs.RoomLaws.{put-fits}
 use Rattle.command_laws.specs.Agree.{AcceptedAlike, JudgedAlike, GivenBack}
-use Rattle.command_laws.proofs.Laid.{number}
+use Rattle.command_laws.proofs.Laid.{word-of-bytes}
 
 -- the CRC of any body with its CRC behind it
 crc-sound : (body : List ℕ) → crcWrong (body ++ bytesOf word (crcBytes crcStart body)) ≡ false
@@ -36,7 +36,7 @@ crc-sound body =
     let low : getD bs (length bs - 2 + 1) 0 ≡ crc % 256 =
     ap (λ (k : ℕ). getD bs (k + 1) 0) n ∙ getD-append-add body (bytesOf word crc) 1 0
     in
-    let stands : numberAt word bs (length bs - 2) ≡ crc = ap₂ (λ (h l : ℕ). h * 256 + l) high low ∙ number crc in
+    let stands : numberAt word bs (length bs - 2) ≡ crc = ap₂ (λ (h l : ℕ). h * 256 + l) high low ∙ word-of-bytes crc in
     let covers : crcBytes crcStart (take (length bs - 2) bs) ≡ crc = ap (crcBytes crcStart) (take-at body (bytesOf word crc) (length bs - 2) (sym n)) in
     ap not (eq-eqb _ _ (covers ∙ sym stands))
 
@@ -50,11 +50,11 @@ headTest hs total = not (eqb (getD hs 0 0) 0x13EE && eqb (getD hs 1 0 / 16384) 3
 
 module _ (f : Fields) where
   -- the head, read off
-  heads : (total : ℕ) (rest : List ℕ) → readOff widths (laid widths (headOf total f) ++ rest) 0 ≡ headOf total f
-  heads total rest = cc (number (49152 + f .sequence), number (total - 7), number (f .address), number (f .«data»))
+  head-read-off : (total : ℕ) (rest : List ℕ) → readOff widths (laid widths (headOf total f) ++ rest) 0 ≡ headOf total f
+  head-read-off total rest = cc (word-of-bytes (49152 + f .sequence), word-of-bytes (total - 7), word-of-bytes (f .address), word-of-bytes (f .«data»))
 
-  tested : (total : ℕ) → headTest (headOf total f) total ≡ countWrong f
-  tested total = simp (eq-eqb (total - 7) (total - 7) refl) (by (ltb (f .sequence) 16384) refl)
+  head-tests-count : (total : ℕ) → headTest (headOf total f) total ≡ countWrong f
+  head-tests-count total = simp (eq-eqb (total - 7) (total - 7) refl) (by (ltb (f .sequence) 16384) refl)
     where
       by : (b : Bool) → ltb (f .sequence) 16384 ≡ b → not (eqb ((49152 + f .sequence) / 16384) 3 && true) ≡ not b
       by true e = simp (eq-eqb ((49152 + f .sequence) / 16384) 3 (omega (arith, ltb-true (f .sequence) 16384 e)))
@@ -64,29 +64,29 @@ module _ (f : Fields) where
     abbrev crc : ℕ
     crc = crcBytes crcStart (bodyBytes f xs)
 
-    pub long : length (commandBytes f xs) ≡ 14 + length xs
+    pub command-length : length (commandBytes f xs) ≡ 14 + length xs
     unfolding commandBytes
-    long = omega (arith, length-append (bodyBytes f xs) (bytesOf word crc))
+    command-length = omega (arith, length-append (bodyBytes f xs) (bytesOf word crc))
 
-    pub header : headerWrong (commandBytes f xs) ≡ countWrong f
+    pub header-tests-count : headerWrong (commandBytes f xs) ≡ countWrong f
     unfolding commandBytes
-    header = ap₂ headTest (heads (14 + length xs) (xs ++ bytesOf word crc)) long ∙ tested (14 + length xs)
+    header-tests-count = ap₂ headTest (head-read-off (14 + length xs) (xs ++ bytesOf word crc)) command-length ∙ head-tests-count (14 + length xs)
 
-    pub sound : crcWrong (commandBytes f xs) ≡ false
+    pub crc-is-right : crcWrong (commandBytes f xs) ≡ false
     unfolding commandBytes
-    sound = crc-sound (bodyBytes f xs)
+    crc-is-right = crc-sound (bodyBytes f xs)
 
-    pub fields : f .sequence < 16384 → fieldsIn (commandBytes f xs) ≡ f
+    pub fields-read-off : f .sequence < 16384 → fieldsIn (commandBytes f xs) ≡ f
     unfolding commandBytes
-    fields h =
+    fields-read-off h =
         let s : (49152 + f .sequence) % 16384 ≡ f .sequence = omega arith in
-        ap fieldsOf (heads (14 + length xs) (xs ++ bytesOf word crc))
+        ap fieldsOf (head-read-off (14 + length xs) (xs ++ bytesOf word crc))
         ∙ ap (λ (n : ℕ). record { sequence = n; «command_type» = f .«command_type»; qualifier = f .qualifier; address = f .address; «data» = f .«data» }) s
 
-    pub further : furtherIn (commandBytes f xs) ≡ xs
+    pub further-read-off : furtherIn (commandBytes f xs) ≡ xs
     unfolding commandBytes
-    further =
-        ap (λ (n : ℕ). take (n - 14) (xs ++ bytesOf word crc)) long ∙ take-at xs (bytesOf word crc) (14 + length xs - 14) (omega arith)
+    further-read-off =
+        ap (λ (n : ℕ). take (n - 14) (xs ++ bytesOf word crc)) command-length ∙ take-at xs (bytesOf word crc) (14 + length xs - 14) (omega arith)
 
 -- ---- the verdicts
 
@@ -99,26 +99,26 @@ seen c m n h x f xs = verdict (seenCauses c m n h x f xs)
 
 module _ (c m : ℕ) (f : Fields) (xs : List ℕ) where
   -- as the layout has them
-  laid-out : verdict (readCauses c m (commandBytes f xs)) ≡ seen c m (14 + length xs) (countWrong f) false (fieldsIn (commandBytes f xs)) xs
-  laid-out =
+  laid-out-causes : verdict (readCauses c m (commandBytes f xs)) ≡ seen c m (14 + length xs) (countWrong f) false (fieldsIn (commandBytes f xs)) xs
+  laid-out-causes =
       ap (λ (n : ℕ). seen c m n (headerWrong (commandBytes f xs)) (crcWrong (commandBytes f xs)) (fieldsIn (commandBytes f xs)) (furtherIn (commandBytes f xs)))
-      (long f xs)
-      ∙ ap (λ (b : Bool). seen c m (14 + length xs) b (crcWrong (commandBytes f xs)) (fieldsIn (commandBytes f xs)) (furtherIn (commandBytes f xs))) (header f xs)
-      ∙ ap (λ (b : Bool). seen c m (14 + length xs) (countWrong f) b (fieldsIn (commandBytes f xs)) (furtherIn (commandBytes f xs))) (sound f xs)
-      ∙ ap (seen c m (14 + length xs) (countWrong f) false (fieldsIn (commandBytes f xs))) (further f xs)
+      (command-length f xs)
+      ∙ ap (λ (b : Bool). seen c m (14 + length xs) b (crcWrong (commandBytes f xs)) (fieldsIn (commandBytes f xs)) (furtherIn (commandBytes f xs))) (header-tests-count f xs)
+      ∙ ap (λ (b : Bool). seen c m (14 + length xs) (countWrong f) b (fieldsIn (commandBytes f xs)) (furtherIn (commandBytes f xs))) (crc-is-right f xs)
+      ∙ ap (seen c m (14 + length xs) (countWrong f) false (fieldsIn (commandBytes f xs))) (further-read-off f xs)
 
   -- the count fits
   module _ (h : f .sequence < 16384) where
-    fits : countWrong f ≡ false
-    fits = ap not (lt-ltb (f .sequence) 16384 h)
+    count-fits : countWrong f ≡ false
+    count-fits = ap not (lt-ltb (f .sequence) 16384 h)
 
-    same-number : verdict (readCauses c m (commandBytes f xs)) ≡ verdict (askCauses c m f xs)
-    same-number =
-        laid-out
-        ∙ ap (λ (g : Fields). seen c m (14 + length xs) (countWrong f) false g xs) (fields f xs h)
-        ∙ ap (λ (b : Bool). seen c m (14 + length xs) b false f xs) fits
+    same-verdict : verdict (readCauses c m (commandBytes f xs)) ≡ verdict (askCauses c m f xs)
+    same-verdict =
+        laid-out-causes
+        ∙ ap (λ (g : Fields). seen c m (14 + length xs) (countWrong f) false g xs) (fields-read-off f xs h)
+        ∙ ap (λ (b : Bool). seen c m (14 + length xs) b false f xs) count-fits
         ∙ ap (λ (b : Bool). verdict (firstCauses b c (14 + length xs) ++ lastCauses c m f xs))
-        (sym (or-false (askedWrong c m)) ∙ ap (λ (b : Bool). askedWrong c m || b) (sym fits))
+        (sym (or-false (askedWrong c m)) ∙ ap (λ (b : Bool). askedWrong c m || b) (sym count-fits))
 
   -- it does not: neither accepts
   module _ (h : countWrong f ≡ true) where
@@ -127,10 +127,10 @@ module _ (c m : ℕ) (f : Fields) (xs : List ℕ) where
         true≢false (sym (or-true (askedWrong c m)) ∙ ap (λ (b : Bool). askedWrong c m || b) (sym h) ∙ spared (askCauses c m f xs) refl z .0)
 
     read-refused : verdict (readCauses c m (commandBytes f xs)) ≡ 0 → ⊥
-    read-refused z = true≢false (sym h ∙ spared (seenCauses c m (14 + length xs) (countWrong f) false (fieldsIn (commandBytes f xs)) xs) refl (sym laid-out ∙ z) .1 .1 .0)
+    read-refused z = true≢false (sym h ∙ spared (seenCauses c m (14 + length xs) (countWrong f) false (fieldsIn (commandBytes f xs)) xs) refl (sym laid-out-causes ∙ z) .1 .1 .0)
 
 pub judged-alike : JudgedAlike
-judged-alike = same-number
+judged-alike = same-verdict
 
 pub accepted-alike : AcceptedAlike
 accepted-alike c m f xs = by (ltb (f .sequence) 16384) refl
@@ -147,28 +147,28 @@ module _ (c m : ℕ) (f : Fields) (xs room : List ℕ) (z : writeReply c m f xs 
   accepted : verdict (askCauses c m f xs) ≡ 0
   accepted = verdict-front (askCauses c m f xs) ((noRoom, ltb (length room) (14 + length xs)) ∷ []) (sym (reply-number c m f xs room refl) ∙ z)
 
-  fit : (f .sequence < 16384) × (14 + length xs ≤ 227) × (14 + length xs ≤ length room)
-  fit = command-fits c m f xs room refl z
+  command-fit : (f .sequence < 16384) × (14 + length xs ≤ 227) × (14 + length xs ≤ length room)
+  command-fit = command-fits c m f xs room refl z
 
   -- what stands in the room
-  there : take (14 + length xs) (writeRoom c m f xs room) ≡ commandBytes f xs
-  there =
-      ap (take (14 + length xs)) (sym (stored c m f xs room refl z refl) ∙ put-fits (commandBytes f xs) 0 room (omega (arith, fit, long f xs)))
-      ∙ take-at (commandBytes f xs) (drop (0 + length (commandBytes f xs)) room) (14 + length xs) (long f xs)
+  room-holds-command : take (14 + length xs) (writeRoom c m f xs room) ≡ commandBytes f xs
+  room-holds-command =
+      ap (take (14 + length xs)) (sym (stored c m f xs room refl z refl) ∙ put-fits (commandBytes f xs) 0 room (omega (arith, command-fit, command-length f xs)))
+      ∙ take-at (commandBytes f xs) (drop (0 + length (commandBytes f xs)) room) (14 + length xs) (command-length f xs)
 
-  number-0 : verdict (readCauses c m (commandBytes f xs)) ≡ 0
-  number-0 = judged-alike c m f xs (fit .0) ∙ accepted
+  reader-accepts : verdict (readCauses c m (commandBytes f xs)) ≡ 0
+  reader-accepts = judged-alike c m f xs (command-fit .0) ∙ accepted
 
   read-back : readReply c m (commandBytes f xs) ≡ command 0 f (length xs)
   unfolding readReply given
   read-back =
-      let n : length (commandBytes f xs) - 14 ≡ length xs = omega (arith, long f xs) in
-      answer-yes _ _ _ number-0 ∙ ap₂ (command 0) (fields f xs (fit .0)) n
+      let n : length (commandBytes f xs) - 14 ≡ length xs = omega (arith, command-length f xs) in
+      answer-yes _ _ _ reader-accepts ∙ ap₂ (command 0) (fields-read-off f xs (command-fit .0)) n
 
   further-back : furtherReply c m (commandBytes f xs) ≡ xs
   unfolding furtherReply
-  further-back = answer-yes _ _ _ number-0 ∙ further f xs
+  further-back = answer-yes _ _ _ reader-accepts ∙ further-read-off f xs
 
 pub given-back : GivenBack
 given-back c m f xs room z =
-    (ap (readReply c m) (there c m f xs room z) ∙ read-back c m f xs room z, ap (furtherReply c m) (there c m f xs room z) ∙ further-back c m f xs room z)
+    (ap (readReply c m) (room-holds-command c m f xs room z) ∙ read-back c m f xs room z, ap (furtherReply c m) (room-holds-command c m f xs room z) ∙ further-back c m f xs room z)

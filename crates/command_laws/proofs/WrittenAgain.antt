@@ -22,63 +22,63 @@ use Rattle.command_laws.proofs.Laid.{laid-again}
 use Rattle.command_laws.proofs.ReadBack.{judged-alike}
 
 module _ (c m : ℕ) (bs : List ℕ) (bytes : (i : ℕ) → getD bs i 0 < 256) (z : verdict (readCauses c m bs) ≡ 0) where
-  long : (14 ≤ length bs) × (length bs ≤ 227)
-  long = total-within (askedWrong c m) c (length bs) (verdict-front (firstCauses (askedWrong c m) c (length bs)) (packetCauses c m (fieldsIn bs) bs) z)
+  total-permitted : (14 ≤ length bs) × (length bs ≤ 227)
+  total-permitted = total-within (askedWrong c m) c (length bs) (verdict-front (firstCauses (askedWrong c m) c (length bs)) (packetCauses c m (fieldsIn bs) bs) z)
 
-  none : Spared (readCauses c m bs)
-  none = spared (readCauses c m bs) refl z
+  no-cause-holds : Spared (readCauses c m bs)
+  no-cause-holds = spared (readCauses c m bs) refl z
 
   -- the header
-  right : eqb (field bs 0) 0x13EE && eqb (field bs 1 / 16384) 3 && eqb (field bs 2) (length bs - 7) ≡ true
-  right = not-false _ (none .1 .1 .0)
+  header-right : eqb (field bs 0) 0x13EE && eqb (field bs 1 / 16384) 3 && eqb (field bs 2) (length bs - 7) ≡ true
+  header-right = not-false _ (no-cause-holds .1 .1 .0)
 
-  stand : (field bs 0 ≡ 0x13EE) × (field bs 1 / 16384 ≡ 3) × (field bs 2 ≡ length bs - 7)
-  stand =
-      let both = and-eq-true-iff (eqb (field bs 0) 0x13EE && eqb (field bs 1 / 16384) 3) (eqb (field bs 2) (length bs - 7)) .0 right in
-      let front = and-eq-true-iff (eqb (field bs 0) 0x13EE) (eqb (field bs 1 / 16384) 3) .0 (both .0) in
-      (eqb-true _ _ (front .0), eqb-true _ _ (front .1), eqb-true _ _ (both .1))
+  header-fields : (field bs 0 ≡ 0x13EE) × (field bs 1 / 16384 ≡ 3) × (field bs 2 ≡ length bs - 7)
+  header-fields =
+      let both = and-eq-true-iff (eqb (field bs 0) 0x13EE && eqb (field bs 1 / 16384) 3) (eqb (field bs 2) (length bs - 7)) .0 header-right in
+      let both-first = and-eq-true-iff (eqb (field bs 0) 0x13EE) (eqb (field bs 1 / 16384) 3) .0 (both .0) in
+      (eqb-true _ _ (both-first .0), eqb-true _ _ (both-first .1), eqb-true _ _ (both .1))
 
-  crc : crcBytes crcStart (take (length bs - 2) bs) ≡ numberAt word bs (length bs - 2)
-  crc = eqb-true _ _ (not-false _ (none .1 .1 .1 .0))
+  crc-right : crcBytes crcStart (take (length bs - 2) bs) ≡ numberAt word bs (length bs - 2)
+  crc-right = eqb-true _ _ (not-false _ (no-cause-holds .1 .1 .1 .0))
 
   -- the three parts
-  total : 14 + length (furtherIn bs) ≡ length bs
-  total = omega (arith, long, length-drop 12 bs, length-take-le (length bs - 14) (drop 12 bs) (omega (arith, long, length-drop 12 bs)))
+  total-of-further : 14 + length (furtherIn bs) ≡ length bs
+  total-of-further = omega (arith, total-permitted, length-drop 12 bs, length-take-le (length bs - 14) (drop 12 bs) (omega (arith, total-permitted, length-drop 12 bs)))
 
-  head : readOff widths bs 0 ≡ headOf (14 + length (furtherIn bs)) (fieldsIn bs)
-  head =
-      let count : field bs 1 ≡ 49152 + field bs 1 % 16384 = omega (arith, stand) in
-      let named : field bs 2 ≡ 14 + length (furtherIn bs) - 7 = stand .2 ∙ ap (λ (n : ℕ). n - 7) (sym total) in
-      cc (stand .0)
+  head-laid : readOff widths bs 0 ≡ headOf (14 + length (furtherIn bs)) (fieldsIn bs)
+  head-laid =
+      let count : field bs 1 ≡ 49152 + field bs 1 % 16384 = omega (arith, header-fields) in
+      let named : field bs 2 ≡ 14 + length (furtherIn bs) - 7 = header-fields .2 ∙ ap (λ (n : ℕ). n - 7) (sym total-of-further) in
+      cc (header-fields .0)
 
-  front : bs ≡ bodyBytes (fieldsIn bs) (furtherIn bs) ++ drop (length bs - 2) bs
-  front =
-      let place : 12 + (length bs - 14) ≡ length bs - 2 = omega (arith, long) in
+  parts-in-a-row : bs ≡ bodyBytes (fieldsIn bs) (furtherIn bs) ++ drop (length bs - 2) bs
+  parts-in-a-row =
+      let place : 12 + (length bs - 14) ≡ length bs - 2 = omega (arith, total-permitted) in
       let rest : drop 12 bs ≡ furtherIn bs ++ drop (length bs - 2) bs =
       sym (take-append-drop (length bs - 14) (drop 12 bs))
       ∙ ap (λ (l : List ℕ). furtherIn bs ++ l) (drop-drop (length bs - 14) 12 bs ∙ ap (λ (n : ℕ). drop n bs) place)
       in
-      laid-again bs bytes widths 0 (omega (arith, long))
-      ∙ ap (λ (hs : List ℕ). laid widths hs ++ drop 12 bs) head
+      laid-again bs bytes widths 0 (omega (arith, total-permitted))
+      ∙ ap (λ (hs : List ℕ). laid widths hs ++ drop 12 bs) head-laid
       ∙ ap (λ (l : List ℕ). laid widths (headOf (14 + length (furtherIn bs)) (fieldsIn bs)) ++ l) rest
 
-  body : take (length bs - 2) bs ≡ bodyBytes (fieldsIn bs) (furtherIn bs)
-  body =
-      ap (take (length bs - 2)) front
-      ∙ take-at (bodyBytes (fieldsIn bs) (furtherIn bs)) (drop (length bs - 2) bs) (length bs - 2) (omega (arith, total))
+  body-laid : take (length bs - 2) bs ≡ bodyBytes (fieldsIn bs) (furtherIn bs)
+  body-laid =
+      ap (take (length bs - 2)) parts-in-a-row
+      ∙ take-at (bodyBytes (fieldsIn bs) (furtherIn bs)) (drop (length bs - 2) bs) (length bs - 2) (omega (arith, total-of-further))
 
-  end : drop (length bs - 2) bs ≡ bytesOf word (numberAt word bs (length bs - 2))
-  end =
+  crc-laid : drop (length bs - 2) bs ≡ bytesOf word (numberAt word bs (length bs - 2))
+  crc-laid =
       let past : length bs ≤ length bs - 2 + 2 = omega arith in
-      laid-again bs bytes (word ∷ []) (length bs - 2) (omega (arith, long))
+      laid-again bs bytes (word ∷ []) (length bs - 2) (omega (arith, total-permitted))
       ∙ ap (λ (l : List ℕ). bytesOf word (numberAt word bs (length bs - 2)) ++ l) (drop-of-length-le bs past)
 
   pub written-again : bs ≡ commandBytes (fieldsIn bs) (furtherIn bs)
   unfolding commandBytes
   written-again =
-      front
+      parts-in-a-row
       ∙ ap (λ (l : List ℕ). bodyBytes (fieldsIn bs) (furtherIn bs) ++ l)
-      (end ∙ ap (bytesOf word) (sym crc ∙ ap (crcBytes crcStart) body))
+      (crc-laid ∙ ap (bytesOf word) (sym crc-right ∙ ap (crcBytes crcStart) body-laid))
 
   pub asked-again : verdict (askCauses c m (fieldsIn bs) (furtherIn bs)) ≡ 0
   asked-again = sym (judged-alike c m (fieldsIn bs) (furtherIn bs) (mod-lt (field bs 1) (lit< tt))) ∙ ap (λ (l : List ℕ). verdict (readCauses c m l)) (sym written-again) ∙ z

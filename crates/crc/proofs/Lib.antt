@@ -1,4 +1,2 @@
-pub mod Powers
 pub mod Laws
-pub mod Joining
 pub mod Turns

@@ -3,7 +3,7 @@ use mathlib.Core.Path.{_≡_, refl}
 use mathlib.Core.List.{[], _∷_}
 use Rattle.crc.specs.Crc.{crcStart, crcBit, crcStep, crcWords, crcBytes}
 
--- document 01, example 8
+-- FORMAT, example 8
 example-8-one : crcWords 0 (0x0001 ∷ []) ≡ 0x1021
 unfolding crcBit crcStep
 example-8-one = refl

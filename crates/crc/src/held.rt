@@ -1,11 +1,12 @@
 // A message so far, held as sixteen words that have its register: the polynomial divides x^256 + x^192 + x^80 + 1, so four
 // words are put down again 4, 11 and 16 words later, and division waits until the end.
-use crate::division;
+use base::number;
 ghost use mathlib.Core.Path.{_≡_};
 ghost use mathlib.Core.List.{[], _∷_};
 ghost use Prim.Native.Nat.{_+_, _≤_};
 ghost use lib.ListN.{length};
-ghost use Rattle.crc.specs.Held.{lanes, wordsAt, pairAt, pairsAt, joined, registerOf};
+ghost use Rattle.crc_division.specs.Blocks.{lanes, joined};
+ghost use Rattle.crc.specs.Held.{wordsAt, pairAt, pairsAt, registerOf};
 
 // Sixteen words, four to a block; a block has its first word lowest, as one load of 64 bits gives it.
 pub struct Held {
@@ -34,7 +35,7 @@ fn pair_at(message: &[u8], i: usize) -> u16
     requires { ⌜ i + 2 ≤ length (now message) ⌝ }
     ensures { λ w. ⌜ w ≡ pairAt (now (message .entry)) i ⌝ }
 {
-    ((message[i] as u16) << 8) ^ (message[i + 1] as u16)
+    number::word(message[i], message[i + 1])
 }
 
 // The eight bytes at a place as four words.
@@ -81,8 +82,8 @@ pub fn join(h: Held, block: u64) -> Held
 pub fn register(h: Held) -> u16
     ensures { λ r. ⌜ r ≡ registerOf h ⌝ }
 {
-    let a = division::sixty_four(0, h.first);
-    let b = division::sixty_four(a, h.second);
-    let c = division::sixty_four(b, h.third);
-    division::sixty_four(c, h.fourth)
+    let a = crc_division::sixty_four(0, h.first);
+    let b = crc_division::sixty_four(a, h.second);
+    let c = crc_division::sixty_four(b, h.third);
+    crc_division::sixty_four(c, h.fourth)
 }

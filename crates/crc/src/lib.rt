@@ -1,5 +1,4 @@
 // The 16-bit CRC with polynomial 1021h, most significant bit first, over words and over bytes, with no table.
-mod division;
 mod held;
 
 ghost use mathlib.Core.Path.{_≡_};
@@ -30,7 +29,7 @@ fn last_words(start: u16, message: &[u16], from: usize) -> u16
     let mut r = start;
     let mut i = from;
     while i < message.len() {
-        r = division::sixteen(r ^ message[i]);
+        r = crc_division::sixteen(r ^ message[i]);
         i += 1;
     }
     r
@@ -57,7 +56,7 @@ fn last_bytes(start: u16, message: &[u8], from: usize) -> u16
     let mut r = start;
     let mut i = from;
     while i < message.len() {
-        r = division::eight(r ^ ((message[i] as u16) << 8));
+        r = crc_division::eight(r ^ ((message[i] as u16) << 8));
         i += 1;
     }
     r

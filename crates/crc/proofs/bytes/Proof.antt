@@ -5,7 +5,8 @@ use native.Mathlib.Omega.{arith}
 use lib.ListN.{length, drop}
 use borrow.Author.Needs.{needs}
 use Rattle.crc.specs.Crc.{crcWords, crcBytes}
-use Rattle.crc.specs.Held.{joined, registerOf}
+use Rattle.crc_division.specs.Blocks.{joined}
+use Rattle.crc.specs.Held.{registerOf}
 use Rattle.crc.proofs.Turns.{bytes-turn}
 use Rattle.crc.proofs.bytes.Statement.{statement}
 use Rattle.crc.proofs.bytes.Tie as tie

@@ -5,7 +5,7 @@ use lib.ListN.{length, drop}
 use borrow.Author.Needs.{needs}
 use Rattle.base.proofs.Walk.{turn, last}
 use Rattle.crc.specs.Crc.{crcStep, crcWords}
-use Rattle.crc.proofs.Laws.{word-step}
+use Rattle.crc_division.proofs.Linear.{word-step}
 use Rattle.crc.proofs.last_words.Statement.{statement}
 use Rattle.crc.proofs.last_words.Tie as tie
 

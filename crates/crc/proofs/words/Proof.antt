@@ -5,7 +5,8 @@ use native.Mathlib.Omega.{arith}
 use lib.ListN.{length, drop}
 use borrow.Author.Needs.{needs}
 use Rattle.crc.specs.Crc.{crcWords, crcWords}
-use Rattle.crc.specs.Held.{joined, registerOf}
+use Rattle.crc_division.specs.Blocks.{joined}
+use Rattle.crc.specs.Held.{registerOf}
 use Rattle.crc.proofs.Turns.{words-turn}
 use Rattle.crc.proofs.words.Statement.{statement}
 use Rattle.crc.proofs.words.Tie as tie

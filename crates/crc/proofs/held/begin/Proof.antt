@@ -4,9 +4,10 @@ use Prim.Native.Nat.{ℕ, _*_, _/_, _%_, _^_}
 use Rattle.base.specs.Xor.{_⊕_}
 use Rattle.base.proofs.Linear.{Linear, shr, shl-in, same, after}
 use Rattle.crc.specs.Crc.{crcBit, crcStep}
-use Rattle.crc.specs.Held.{joined, registerOf}
-use Rattle.crc.proofs.Joining.{blocks, alone-linear}
-use Rattle.crc.proofs.Powers.{by-powers, and-shr, and-shl}
+use Rattle.crc_division.specs.Blocks.{joined}
+use Rattle.crc.specs.Held.{registerOf}
+use Rattle.crc_division.proofs.Joining.{blocks, alone-linear}
+use Rattle.crc_division.proofs.Powers.{by-powers, and-shr, and-shl}
 use Rattle.crc.proofs.held.begin.Statement.{statement}
 use Rattle.crc.proofs.held.begin.Tie as tie
 

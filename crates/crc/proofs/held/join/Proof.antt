@@ -1,7 +1,7 @@
 -- `crc::held::join` meets its contract: the law of `Joining`.
 use native.Mathlib.Omega.{arith}
 use Rattle.crc.specs.Held.{registerOf}
-use Rattle.crc.proofs.Joining as joining
+use Rattle.crc_division.proofs.Joining as joining
 use Rattle.crc.proofs.held.join.Statement.{statement}
 use Rattle.crc.proofs.held.join.Tie as tie
 

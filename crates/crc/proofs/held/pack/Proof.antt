@@ -7,7 +7,7 @@ use lib.Dec.{lit≤}
 use lib.Pow.{shl-exact, low, high}
 use lib.Bits.{xor-comm, xor-shifted}
 use Rattle.base.specs.Xor.{_⊕_}
-use Rattle.crc.specs.Held.{lanes}
+use Rattle.crc_division.specs.Blocks.{lanes}
 use Rattle.crc.proofs.held.pack.Statement.{statement}
 use Rattle.crc.proofs.held.pack.Tie as tie
 

@@ -1,10 +1,11 @@
-// Division by the polynomial, many bits at a time. q is the quotient: the bits that fall off the top on the way. The
-// register is what the quotient times the polynomial leaves below.
+// Division by the polynomial of the CRC, many bits at a time and with no table. q is the quotient: the bits that fall off the
+// top on the way. The register is what the quotient times the polynomial leaves below.
 use base::number;
 ghost use mathlib.Core.Path.{_≡_};
-ghost use Rattle.crc.specs.Crc.{crcBits};
-ghost use Rattle.crc.specs.Held.{joined};
+ghost use Rattle.crc_division.specs.Crc.{crcBits};
+ghost use Rattle.crc_division.specs.Blocks.{joined};
 
+// Eight bits.
 pub fn eight(r: u16) -> u16
     ensures { λ s. ⌜ s ≡ crcBits 8 r ⌝ }
 {
@@ -13,6 +14,7 @@ pub fn eight(r: u16) -> u16
     q ^ (q << 5) ^ (q << 12) ^ (r << 8)
 }
 
+// Sixteen bits.
 pub fn sixteen(r: u16) -> u16
     ensures { λ s. ⌜ s ≡ crcBits 16 r ⌝ }
 {

@@ -1,12 +1,12 @@
--- `crc::division::sixteen` meets its contract: the code and the sixteen bits are linear, and they agree on the powers of two.
+-- `crc_division::sixteen` meets its contract: the code and the sixteen bits are linear, and they agree on the powers of two.
 use Prim.Native.Nat.{ℕ, _/_, _^_}
 use Rattle.base.specs.Xor.{_⊕_}
 use Rattle.base.proofs.Linear.{Linear, same, after}
-use Rattle.crc.specs.Crc.{crcBit, crcBits}
-use Rattle.crc.proofs.Laws.{bits-linear}
-use Rattle.crc.proofs.Powers.{by-powers, and-shr, rest, rest-linear}
-use Rattle.crc.proofs.division.sixteen.Statement.{statement}
-use Rattle.crc.proofs.division.sixteen.Tie as tie
+use Rattle.crc_division.specs.Crc.{crcBit, crcBits}
+use Rattle.crc_division.proofs.Linear.{bits-linear}
+use Rattle.crc_division.proofs.Powers.{by-powers, and-shr, rest, rest-linear}
+use Rattle.crc_division.proofs.sixteen.Statement.{statement}
+use Rattle.crc_division.proofs.sixteen.Tie as tie
 
 abbrev a : ℕ → ℕ
 a r = r ⊕ r / 2 ^ 4

@@ -1,4 +1,4 @@
--- `crc::division::sixty_four` meets its contract: the code and the four words are linear in the block with the register in it, and
+-- `crc_division::sixty_four` meets its contract: the code and the four words are linear in the block with the register in it, and
 -- they agree on the powers of two.
 use mathlib.Core.Path.{_≡_, sym, _∙_}
 use Prim.Native.Nat.{ℕ, _*_, _/_, _%_, _^_, _<_}
@@ -7,12 +7,12 @@ use borrow.Author.Needs.{needs}
 use native.Mathlib.Omega.{arith}
 use Rattle.base.specs.Xor.{_⊕_}
 use Rattle.base.proofs.Linear.{Linear, shr, shl-in, low, same, plus, after}
-use Rattle.crc.specs.Crc.{crcBit, crcStep}
-use Rattle.crc.specs.Held.{joined}
-use Rattle.crc.proofs.Joining.{joined-linear, into-block}
-use Rattle.crc.proofs.Powers.{by-powers, and-shr, rest, rest-linear}
-use Rattle.crc.proofs.division.sixty_four.Statement.{statement}
-use Rattle.crc.proofs.division.sixty_four.Tie as tie
+use Rattle.crc_division.specs.Crc.{crcBit, crcStep}
+use Rattle.crc_division.specs.Blocks.{joined}
+use Rattle.crc_division.proofs.Blocks.{joined-linear, into-block}
+use Rattle.crc_division.proofs.Powers.{by-powers, and-shr, rest, rest-linear}
+use Rattle.crc_division.proofs.sixty_four.Statement.{statement}
+use Rattle.crc_division.proofs.sixty_four.Tie as tie
 
 abbrev left : ℕ → ℕ → ℕ
 left k x = x * 2 ^ k % 2 ^ 64

@@ -1,12 +1,12 @@
--- `crc::division::eight` meets its contract: the code and the eight bits are linear, and they agree on the powers of two.
+-- `crc_division::eight` meets its contract: the code and the eight bits are linear, and they agree on the powers of two.
 use Prim.Native.Nat.{ℕ, _*_, _/_, _%_, _^_}
 use Rattle.base.specs.Xor.{_⊕_}
 use Rattle.base.proofs.Linear.{Linear, shr, same, after}
-use Rattle.crc.specs.Crc.{crcBit, crcBits}
-use Rattle.crc.proofs.Laws.{bits-linear}
-use Rattle.crc.proofs.Powers.{by-powers, and-shr, and-shl, rest, rest-linear}
-use Rattle.crc.proofs.division.eight.Statement.{statement}
-use Rattle.crc.proofs.division.eight.Tie as tie
+use Rattle.crc_division.specs.Crc.{crcBit, crcBits}
+use Rattle.crc_division.proofs.Linear.{bits-linear}
+use Rattle.crc_division.proofs.Powers.{by-powers, and-shr, and-shl, rest, rest-linear}
+use Rattle.crc_division.proofs.eight.Statement.{statement}
+use Rattle.crc_division.proofs.eight.Tie as tie
 
 abbrev q : ℕ → ℕ
 q r = r / 2 ^ 8 ⊕ r / 2 ^ 8 / 2 ^ 4

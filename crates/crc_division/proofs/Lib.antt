@@ -1,0 +1,4 @@
+pub mod Powers
+pub mod Linear
+pub mod Blocks
+pub mod Joining
