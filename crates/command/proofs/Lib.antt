@@ -1,3 +1,1 @@
 pub mod Verdicts
-pub mod ReadLaws
-pub mod WriteLaws

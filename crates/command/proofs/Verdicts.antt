@@ -8,7 +8,7 @@ use lib.Dec.{leb, eqb}
 use borrow.Author.Tests.{leb-true, not-false}
 use Rattle.base.specs.Refusal.{Causes, verdict, wrongArgument, wrongLength}
 use Rattle.base.proofs.Refused.{Spared, spared}
-use Rattle.command.specs.Calls.{mostBytes, firstCauses}
+use Rattle.command.specs.Asking.{mostBytes, firstCauses}
 
 pub verdict-stop : (cs ds : Causes) → (verdict cs ≡ 0 → ⊥) → verdict (cs ++ ds) ≡ verdict cs
 verdict-stop [] ds h = absurd (h refl)
@@ -26,18 +26,18 @@ verdict-front ((n, false) ∷ cs) ds e = verdict-front cs ds e
 
 -- ---- what the first causes leave
 
-pub first-is : (a : Bool) (c n : ℕ) {m v w : ℕ} → m ≡ mostBytes c → w ≡ cond (not (leb 14 n && leb n m)) wrongLength 0 → v ≡ cond a wrongArgument w
+pub first-by-causes : (a : Bool) (c n : ℕ) {m v w : ℕ} → m ≡ mostBytes c → w ≡ cond (not (leb 14 n && leb n m)) wrongLength 0 → v ≡ cond a wrongArgument w
     → v ≡ verdict (firstCauses a c n)
-first-is a c n em ew ev = ev ∙ ap (cond a wrongArgument) (ew ∙ ap (λ (x : ℕ). cond (not (leb 14 n && leb n x)) wrongLength 0) em)
+first-by-causes a c n em ew ev = ev ∙ ap (cond a wrongArgument) (ew ∙ ap (λ (x : ℕ). cond (not (leb 14 n && leb n x)) wrongLength 0) em)
 
 -- the length of what is not refused at first
 module _ (a : Bool) (c n : ℕ) (h : verdict (firstCauses a c n) ≡ 0) where
-  inside : leb 14 n && leb n (mostBytes c) ≡ true
-  inside = not-false _ (spared (firstCauses a c n) refl h .1 .0)
+  total-between : leb 14 n && leb n (mostBytes c) ≡ true
+  total-between = not-false _ (spared (firstCauses a c n) refl h .1 .0)
 
-  pub within : (14 ≤ n) × (n ≤ 227)
-  within =
-      let both = and-eq-true-iff (leb 14 n) (leb n (mostBytes c)) .0 inside in
+  pub total-within : (14 ≤ n) × (n ≤ 227)
+  total-within =
+      let both = and-eq-true-iff (leb 14 n) (leb n (mostBytes c)) .0 total-between in
       (leb-true 14 n (both .0), omega (arith, leb-true n (mostBytes c) (both .1), most (eqb c 1)))
     where
       most : (b : Bool) → cond b 227 62 ≤ 227

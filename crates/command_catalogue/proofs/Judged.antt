@@ -40,11 +40,11 @@ module _ (bs : List ℕ) (i : ℕ) {z : Bool} (inv : zeros (drop i bs) ≡ z) wh
   zeros-done h = sym (ap zeros (drop-of-length-le bs h)) ∙ inv
 
 -- one cause before others, by its parts
-pub nest : {a b : Bool} {v w : ℕ} (n : ℕ) → a ≡ b → v ≡ w → cond a n v ≡ cond b n w
-nest n p q = cc
+pub cause-by-parts : {a b : Bool} {v w : ℕ} (n : ℕ) → a ≡ b → v ≡ w → cond a n v ≡ cond b n w
+cause-by-parts n p q = cc
 
-pub judged : (c m k q a d : ℕ) (xs : List ℕ) {p : Permits} {fw ww : Bool} {v₁ v₂ v₃ v : ℕ} → p ≡ permits c m k q → fw ≡ fieldsWrong p k a d (length xs)
+pub verdict-by-parts : (c m k q a d : ℕ) (xs : List ℕ) {p : Permits} {fw ww : Bool} {v₁ v₂ v₃ v : ℕ} → p ≡ permits c m k q → fw ≡ fieldsWrong p k a d (length xs)
     → ww ≡ furtherWrong c k d xs → v₁ ≡ cond (not (p .mode)) wrongMode 0 → v₂ ≡ cond ww wrongFurther v₁ → v₃ ≡ cond fw wrongField v₂
     → v ≡ cond (not (p .«command_type»)) wrongType v₃ → v ≡ verdict (fieldCauses c m k q a d xs)
-judged c m k q a d xs {p} ep ef ew e₁ e₂ e₃ e =
-    e ∙ ap (cond (not (p .«command_type»)) wrongType) (e₃ ∙ nest wrongField ef (e₂ ∙ nest wrongFurther ew e₁)) ∙ ap (λ (r : Permits). verdict (causesOf r c k a d xs)) ep
+verdict-by-parts c m k q a d xs {p} ep ef ew e₁ e₂ e₃ e =
+    e ∙ ap (cond (not (p .«command_type»)) wrongType) (e₃ ∙ cause-by-parts wrongField ef (e₂ ∙ cause-by-parts wrongFurther ew e₁)) ∙ ap (λ (r : Permits). verdict (causesOf r c k a d xs)) ep

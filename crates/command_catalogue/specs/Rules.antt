@@ -1,4 +1,4 @@
--- Document 01, "Commands": which fields and further bytes a command may have. Reader and writer go by these alike.
+-- FORMAT, "Commands": which fields and further bytes a command may have. Reader and writer go by these alike.
 use Prim.Native.Nat.{ℕ}
 use mathlib.Core.Bool.{Bool, true, cond, not, _&&_, _||_}
 use mathlib.Core.List.{List, [], _∷_}

@@ -1,4 +1,4 @@
--- Document 01, "Commands": the table of the two catalogues, and what it says of a command.
+-- FORMAT, "Commands": the table of the two catalogues, and what it says of a command.
 use Prim.Native.Nat.{ℕ}
 use mathlib.Core.Bool.{Bool, true, false, cond, not, _&&_, _||_}
 use mathlib.Core.List.{List, [], _∷_}

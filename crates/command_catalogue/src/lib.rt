@@ -2,8 +2,8 @@
 mod table;
 
 use crate::table::Permits;
-use crate::table::either;
 use crate::table::look_up;
+use base::number::either;
 use base::refusal::COMMAND_FIELD;
 use base::refusal::COMMAND_TYPE;
 use base::refusal::FURTHER_DATA;

@@ -1,12 +1,13 @@
-// The table of the two catalogues, row by row as document 01 has it.
+// The table of the two catalogues, row by row as the rules have it.
 use crate::C1XS;
 use crate::DCIXS;
 use crate::EMERGENCY;
 use crate::OPERATING;
 use crate::PATCH;
 use crate::STANDBY;
+use base::number::either;
 ghost use mathlib.Core.Path.{_≡_};
-ghost use mathlib.Core.Bool.{true, cond};
+ghost use mathlib.Core.Bool.{true};
 ghost use Rattle.command_catalogue.specs.Table.{permitted, permits};
 
 // What the table permits of a command: its type, its qualifier, an address and data other than zero, and its mode.
@@ -28,13 +29,6 @@ fn row(qualifier: bool, address: bool, data: bool, mode: bool) -> Permits
         data,
         mode,
     }
-}
-
-// A rule that goes by the catalogue.
-pub fn either(dcixs: bool, first: bool, second: bool) -> bool
-    ensures { λ r. ⌜ r ≡ cond dcixs first second ⌝ }
-{
-    if dcixs { first } else { second }
 }
 
 // The types whose address and data are fixed at zero.

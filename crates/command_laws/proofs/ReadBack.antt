@@ -15,9 +15,11 @@ use Rattle.base.proofs.Refused.{spared, answer-yes}
 use Rattle.crc.specs.Crc.{crcStart, crcBytes}
 use Rattle.command.specs.declared.Fields.{Fields}
 use Rattle.command.specs.Layout.{widths, headOf, laid, readOff, word, bytesOf, numberAt, bodyBytes, commandBytes, fieldsIn, furtherIn}
-use Rattle.command.specs.Calls.{askedWrong, firstCauses, lastCauses, headerWrong, crcWrong, readCauses, countWrong, askCauses, command, given, readReply, furtherReply, writeReply, writeRoom}
+use Rattle.command.specs.Asking.{askedWrong, firstCauses, lastCauses}
 use Rattle.command.proofs.Verdicts.{verdict-front}
-use Rattle.command.proofs.WriteLaws.{reply-number, small, stored}
+use Rattle.command_reading.specs.Reading.{headerWrong, crcWrong, readCauses, command, given, readReply, furtherReply}
+use Rattle.command_writing.specs.Writing.{countWrong, askCauses, writeReply, writeRoom}
+use Rattle.command_writing.proofs.Replies.{reply-number, command-fits, stored}
 use Rattle.base.proofs.RoomLaws.{put-fits}
 use Rattle.command_laws.specs.Agree.{AcceptedAlike, JudgedAlike, GivenBack}
 use Rattle.command_laws.proofs.Laid.{number}
@@ -146,7 +148,7 @@ module _ (c m : ℕ) (f : Fields) (xs room : List ℕ) (z : writeReply c m f xs 
   accepted = verdict-front (askCauses c m f xs) ((noRoom, ltb (length room) (14 + length xs)) ∷ []) (sym (reply-number c m f xs room refl) ∙ z)
 
   fit : (f .sequence < 16384) × (14 + length xs ≤ 227) × (14 + length xs ≤ length room)
-  fit = small c m f xs room refl z
+  fit = command-fits c m f xs room refl z
 
   -- what stands in the room
   there : take (14 + length xs) (writeRoom c m f xs room) ≡ commandBytes f xs

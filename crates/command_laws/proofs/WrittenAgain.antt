@@ -13,15 +13,17 @@ use Rattle.base.specs.Refusal.{verdict}
 use Rattle.base.proofs.Refused.{Spared, spared}
 use Rattle.crc.specs.Crc.{crcStart, crcBytes}
 use Rattle.command.specs.Layout.{widths, headOf, laid, readOff, word, bytesOf, numberAt, bodyBytes, commandBytes, field, fieldsIn, furtherIn}
-use Rattle.command.specs.Calls.{askedWrong, firstCauses, packetCauses, readCauses, askCauses}
-use Rattle.command.proofs.Verdicts.{verdict-front, within}
+use Rattle.command.specs.Asking.{askedWrong, firstCauses}
+use Rattle.command.proofs.Verdicts.{verdict-front, total-within}
+use Rattle.command_reading.specs.Reading.{packetCauses, readCauses}
+use Rattle.command_writing.specs.Writing.{askCauses}
 use Rattle.command_laws.specs.Agree.{WrittenAlike}
 use Rattle.command_laws.proofs.Laid.{laid-again}
 use Rattle.command_laws.proofs.ReadBack.{judged-alike}
 
 module _ (c m : ℕ) (bs : List ℕ) (bytes : (i : ℕ) → getD bs i 0 < 256) (z : verdict (readCauses c m bs) ≡ 0) where
   long : (14 ≤ length bs) × (length bs ≤ 227)
-  long = within (askedWrong c m) c (length bs) (verdict-front (firstCauses (askedWrong c m) c (length bs)) (packetCauses c m (fieldsIn bs) bs) z)
+  long = total-within (askedWrong c m) c (length bs) (verdict-front (firstCauses (askedWrong c m) c (length bs)) (packetCauses c m (fieldsIn bs) bs) z)
 
   none : Spared (readCauses c m bs)
   none = spared (readCauses c m bs) refl z

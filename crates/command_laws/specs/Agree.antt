@@ -1,4 +1,4 @@
--- Document 01, "Commands": what reader and writer promise together.
+-- FORMAT, "Commands": what reader and writer promise together.
 use Prim.Native.Nat.{ℕ, _+_, _<_}
 use mathlib.Core.Path.{_≡_}
 use mathlib.Core.List.{List}
@@ -6,7 +6,8 @@ use lib.ListN.{length, getD, take}
 use Rattle.base.specs.Refusal.{verdict}
 use Rattle.command.specs.declared.Fields.{Fields}
 use Rattle.command.specs.Layout.{leastBytes, commandBytes, fieldsIn, furtherIn}
-use Rattle.command.specs.Calls.{readCauses, askCauses, command, readReply, furtherReply, writeReply, writeRoom}
+use Rattle.command_reading.specs.Reading.{readCauses, command, readReply, furtherReply}
+use Rattle.command_writing.specs.Writing.{askCauses, writeReply, writeRoom}
 
 -- What the writer writes, the reader accepts, and gives back every field and every byte.
 abbrev pub GivenBack : Type 0

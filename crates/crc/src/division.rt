@@ -1,7 +1,7 @@
 // Division by the polynomial, many bits at a time. q is the quotient: the bits that fall off the top on the way. The
 // register is what the quotient times the polynomial leaves below.
+use base::number;
 ghost use mathlib.Core.Path.{_≡_};
-ghost use Prim.Native.Nat.{_%_, _^_};
 ghost use Rattle.crc.specs.Crc.{crcBits};
 ghost use Rattle.crc.specs.Held.{joined};
 
@@ -21,12 +21,6 @@ pub fn sixteen(r: u16) -> u16
     q ^ (q << 5) ^ (q << 12)
 }
 
-fn low(x: u64) -> u16
-    ensures { λ r. ⌜ r ≡ x % 2 ^ 16 ⌝ }
-{
-    (x & 0xffff) as u16
-}
-
 // The four words of a block, which has its first word lowest: y has it highest, as they go by.
 pub fn sixty_four(r: u16, block: u64) -> u16
     ensures { λ s. ⌜ s ≡ joined r block ⌝ }
@@ -37,5 +31,5 @@ pub fn sixty_four(r: u16, block: u64) -> u16
     let f = e ^ (e >> 8) ^ (e >> 22) ^ (e >> 32);
     let g = f ^ (f >> 16) ^ (f >> 44);
     let q = g ^ (g >> 32);
-    low(q ^ (q << 5) ^ (q << 12))
+    number::low_word(q ^ (q << 5) ^ (q << 12))
 }

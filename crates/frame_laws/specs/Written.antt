@@ -9,9 +9,10 @@ use Rattle.base.specs.Room.{put}
 use Rattle.base.specs.Limit.{recordingLimit}
 use Rattle.chunk_laws.specs.Stretch.{Laid, words, offset, wholeRow}
 use Rattle.chunk_laws.specs.Written.{accepted, written}
-use Rattle.parity.specs.Unit.{judgeVerdict, unitData}
+use Rattle.parity_laws.specs.Units.{Hold}
 use Rattle.frame.specs.Shape.{observes}
-use Rattle.frame.specs.Replies.{frame, atReply, judgeReply, readReply, readRoom}
+use Rattle.frame.specs.Described.{frame}
+use Rattle.frame_reading.specs.Replies.{atReply, judgeReply, readReply, readRoom}
 
 -- lists joined
 unfoldable pub joined : List (List ℕ) → List ℕ
@@ -44,13 +45,6 @@ fullButLast (us ∷ vs ∷ uss) = eqb (length (joined us) % 264) 0 && fullButLas
 abbrev pub allUnits : List (List (List ℕ)) → List (List ℕ)
 allUnits [] = []
 allUnits (us ∷ uss) = us ++ allUnits uss
-
--- each of these units is accepted, and holds the data beside it
-abbrev pub Hold : List (List ℕ) → List (List ℕ) → Type 0
-Hold [] [] = Unit {0}
-Hold [] (d ∷ ds) = ⊥
-Hold (u ∷ us) [] = ⊥
-Hold (u ∷ us) (d ∷ ds) = (judgeVerdict u ≡ 0) × (unitData u ≡ d) × Hold us ds
 
 -- A frame of a camera, and after it a health chunk whose first packet observes the camera. Its units hold the data `ds`.
 pub record Written (cam : ℕ) (uss : List (List (List ℕ))) (health : List ℕ) (ds : List (List ℕ)) : Type 0 where

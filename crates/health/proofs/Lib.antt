@@ -1,5 +1,3 @@
 pub mod Answered
 pub mod Parts
 pub mod Sound
-pub mod Wrote
-pub mod RoundTrip

@@ -1,6 +1,6 @@
 -- Parts of a packet: a part written over a whole array is the array, and the CRC goes part by part.
 use mathlib.Core.Path.{_≡_, sym, ap, _∙_}
-use mathlib.Core.List.{List, [], _∷_, _++_, append-nil}
+use mathlib.Core.List.{List, _++_, append-nil}
 use Prim.Native.Nat.{ℕ, _+_, _-_, _≤_}
 use native.Mathlib.Nat.{add-sub-cancel-left}
 use native.Mathlib.Omega.{arith}
@@ -10,7 +10,6 @@ use Rattle.base.proofs.RoomLaws.{put-fits, to-end}
 use Rattle.crc.specs.Crc.{crcWords, crcStart}
 use Rattle.crc.proofs.Laws.{crc-append}
 use Rattle.health.specs.Packet.{packetCrc}
-use Rattle.health.specs.Writing.{writtenCrc}
 
 -- what is written over all of an array stands in it alone
 pub whole : (s d : List ℕ) → length s ≡ length d → put s 0 d ≡ s
@@ -34,7 +33,3 @@ module _ (p : List ℕ) where
   pub crc-parts : {x y : ℕ} → x ≡ crcWords crcStart (take 1 p) → y ≡ crcWords x (take (length p - 2) (drop 2 p)) → y ≡ packetCrc p
   unfolding packetCrc
   crc-parts {x} e q = q ∙ ap (crcWords x) (to-end 2 p) ∙ ap (λ (r : ℕ). crcWords r (drop 2 p)) e ∙ sym (crc-append 16 crcStart (take 1 p) (drop 2 p))
-
-pub crc-written : (t s : ℕ) (ws : List ℕ) {x y : ℕ} → x ≡ crcWords crcStart (t ∷ s ∷ []) → y ≡ crcWords x ws → y ≡ writtenCrc t s ws
-unfolding writtenCrc
-crc-written t s ws e q = q ∙ ap (λ (r : ℕ). crcWords r ws) e

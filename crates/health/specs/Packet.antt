@@ -1,4 +1,4 @@
--- Document 01, "Health packets": the packet itself. 32 words: type, CRC, time, 29 more.
+-- FORMAT, "Health packets": the packet itself. 32 words: type, CRC, time, 29 more.
 use Prim.Native.Nat.{ℕ, _%_}
 use mathlib.Core.Bool.{Bool, _&&_, _||_}
 use mathlib.Core.List.{List, _++_}

@@ -1,4 +1,4 @@
--- Document 01, "Health packets": what the packet reader answers.
+-- FORMAT, "Health packets": what the packet reader answers.
 use Prim.Native.Nat.{ℕ}
 use mathlib.Core.Bool.{Bool, not}
 use mathlib.Core.List.{List, [], _∷_}
@@ -19,6 +19,9 @@ readCauses p = judgeCauses p (not (permittedType (packetType p)))
 abbrev pub packetOf : ℕ → ℕ → ℕ → List ℕ → Packet
 packetOf v t s ws = record { refusal = v; «packet_type» = t; time = s; words = ws }
 
+abbrev pub refused : ℕ → Packet
+refused v = packetOf v 0 0 (replicate 29 0)
+
 -- type, time and the 29 words of a sound packet
 unfoldable pub readReply : List ℕ → Packet
-readReply p = answer (verdict (readCauses p)) (λ v. packetOf v 0 0 (replicate 29 0)) (packetOf 0 (packetType p) (packetTime p) (packetWords p))
+readReply p = answer (verdict (readCauses p)) refused (packetOf 0 (packetType p) (packetTime p) (packetWords p))

@@ -1,4 +1,4 @@
--- Document 01, "Health packets": what the packet writer answers and writes.
+-- FORMAT, "Health packets": what the packet writer answers and writes.
 use Prim.Native.Nat.{ℕ}
 use mathlib.Core.Bool.{Bool, not}
 use mathlib.Core.List.{List, [], _∷_}

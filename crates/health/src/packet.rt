@@ -7,8 +7,8 @@ ghost use mathlib.Core.Path.{_≡_};
 ghost use lib.ListN.{length, take, drop};
 ghost use Rattle.base.specs.Refusal.{verdict};
 ghost use Rattle.health.specs.Packet.{packetCrc, permittedType, soundPacket};
-ghost use Rattle.health.specs.Reading.{judgeCauses, readCauses, readReply};
-ghost use Rattle.health.specs.Writing.{writableType, writeReply, writeRoom, writtenCrc};
+ghost use Rattle.health.specs.Reading.{judgeCauses, readCauses, refused, readReply};
+ghost use Rattle.health.specs.Writing.{writableType, writeReply, writeRoom};
 
 // the words of a packet
 pub const SIZE: usize = 32;
@@ -88,14 +88,15 @@ pub fn sound_at(words: &[u16], at: Words) -> bool
     is_sound(&words[from..end])
 }
 
-// The 29 words after the first three.
-fn words_of(packet: &[u16]) -> [u16; 29]
-    requires { ⌜ length (now packet) ≡ 32 ⌝ }
-    ensures { λ r. ⌜ r ≡ drop 3 (now (packet .entry)) ⌝ }
+fn refused(number: u8) -> Packet
+    ensures { λ r. ⌜ r ≡ refused number ⌝ }
 {
-    let mut words = [0u16; 29];
-    room::put_words(&packet[3..], &mut words, Words(0));
-    words
+    Packet {
+        refusal: number,
+        packet_type: 0,
+        time: 0,
+        words: [0; 29],
+    }
 }
 
 // A packet taken apart.
@@ -104,26 +105,16 @@ pub fn read_packet(packet: &[u16]) -> Packet
 {
     let verdict = read_verdict(packet);
     if verdict != 0 {
-        return Packet {
-            refusal: verdict,
-            packet_type: 0,
-            time: 0,
-            words: [0; 29],
-        };
+        return refused(verdict);
     }
+    let mut words = [0u16; 29];
+    room::put_words(&packet[3..], &mut words, Words(0));
     Packet {
         refusal: 0,
         packet_type: room::word_at(packet, Words(0)),
         time: room::word_at(packet, Words(2)),
-        words: words_of(packet),
+        words,
     }
-}
-
-// The CRC of a packet of this type, time and words.
-fn crc_of(packet_type: u16, time: u16, words: &[u16]) -> u16
-    ensures { λ r. ⌜ r ≡ writtenCrc «packet_type» time (now (words .entry)) ⌝ }
-{
-    crc::words(crc::words(crc::START, &[packet_type, time]), words)
 }
 
 // The writer's reply.
@@ -153,8 +144,7 @@ pub fn write_packet(packet_type: u16, time: u16, words: &[u16], room: &mut [u16]
     if reply.refusal != 0 {
         return reply;
     }
-    let head = [packet_type, crc_of(packet_type, time, words), time];
-    room::put_words(&head, room, Words(0));
-    room::put_words(words, room, Words(3));
+    let crc = crc::words(crc::words(crc::START, &[packet_type, time]), words);
+    room::put_joined(&[packet_type, crc, time], words, room);
     reply
 }

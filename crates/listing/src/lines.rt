@@ -17,7 +17,7 @@ pub fn refused(out: Out, page: &mut [u8; PAGE], refusal: u8) -> Out {
 }
 
 pub fn recording(out: Out, page: &mut [u8; PAGE], words: &[u16], sync: u16) -> Out {
-    let survey = chunk::reading::count(words, sync);
+    let survey = chunk_reading::counting::count(words, sync);
     out.text(page, b"recording ")
         .number(page, words.len())
         .text(page, b" skipped ")

@@ -1,21 +1,27 @@
--- The five cases: each by its test after those before it, of the differences, and a data bit that is found is one of the data.
-use mathlib.Core.Path.{_≡_, refl, ap, _∙_}
+-- The five cases: each by its test after those before it; what they find of the rows and columns that differ is what is found of the unit; and a data bit
+-- that is found is one of the data.
+use mathlib.Core.Path.{_≡_, refl, sym, ap, ap₂, _∙_}
 use mathlib.Core.Bool.{Bool, true, false, cond, _&&_}
 use mathlib.Core.List.{List}
 use Prim.Native.Nat.{ℕ, _+_, _-_, _*_, _/_, _%_, _<_}
 use native.Mathlib.Omega.{arith}
 use lib.Dec.{ltb, eqb}
 use lib.Count.{ones, leadingZeros}
-use lib.ListN.{length}
+use lib.Bits.{xor-lt}
+use lib.ListN.{length, drop}
 use borrow.Author.Tests.{ltb-true}
+use Rattle.base.specs.Xor.{_⊕_}
 use Rattle.base.specs.Refusal.{wrongParity}
+use Rattle.base.proofs.Booleans.{and-right}
+use Rattle.parity_rows.specs.declared.Sums.{Sums}
+use Rattle.parity_rows.specs.Parity.{number, bitFrom, rowParity, columnParity, parities, statedParity}
+use Rattle.parity_rows.proofs.Folds.{number-xor}
+use Rattle.parity_rows.proofs.Words.{from-lt}
+use Rattle.parity_rows.proofs.ByRows.{row-lt, column-lt}
 use Rattle.parity.specs.declared.Judged.{Judged}
-use Rattle.parity.specs.declared.rows.Sums.{Sums}
 use Rattle.parity.specs.Unit.{Finding, sound, parityBit, dataBit, neither, sumAll, firstOf, rowDiffers, columnDiffers, fiveCases, finding, reply, refused}
-use Rattle.parity.specs.Sums.{differences, answerOf}
+use Rattle.parity.specs.Answered.{answerOf}
 use Rattle.parity.proofs.Counted.{ones-sum, leading-first}
-use Rattle.parity.proofs.Differences.{row-bits, column-bits}
-use Rattle.parity.proofs.Spot.{and-both}
 
 module _ (R C row column k : ℕ) where
   abbrev answered : Judged
@@ -45,18 +51,39 @@ module _ (R C row column k : ℕ) where
         unfolding fiveCases
         case-neither t = simp (p, q, s, t)
 
--- ---- what the five cases find of the differences is what is found of the unit
+-- ---- the rows and the columns that differ, digit by digit
 
-pub found : (u : List ℕ) (d : Sums) → d ≡ differences u
-    → fiveCases (ones (d .rows)) (ones (d .columns)) (leadingZeros 64 (d .rows)) (leadingZeros 64 (d .columns)) (length u - 8) ≡ finding u
-unfolding finding
-found u d e =
-    ap (λ (s : Sums). fiveCases (ones (s .rows)) (ones (s .columns)) (leadingZeros 64 (s .rows)) (leadingZeros 64 (s .columns)) (length u - 8)) e
-    ∙ same (ones-sum (rowDiffers u) (row-bits u) 64) (ones-sum (columnDiffers u) (column-bits u) 64) (leading-first 64 (rowDiffers u) (row-bits u))
-    (leading-first 64 (columnDiffers u) (column-bits u))
-  where
-    same : {a b c d a′ b′ c′ d′ : ℕ} → a ≡ a′ → b ≡ b′ → c ≡ c′ → d ≡ d′ → fiveCases a b c d (length u - 8) ≡ fiveCases a′ b′ c′ d′ (length u - 8)
-    same p q r s = cc
+module _ (u : List ℕ) where
+  row-bits : (r : ℕ) → rowDiffers u r < 2
+  unfolding rowDiffers
+  row-bits r = xor-lt 1 (bitFrom u 0 r) (rowParity (drop 8 u) r) (from-lt u 0 r) (row-lt (drop 8 u) r)
+
+  column-bits : (c : ℕ) → columnDiffers u c < 2
+  unfolding columnDiffers
+  column-bits c = xor-lt 1 (bitFrom u 4 c) (columnParity (drop 8 u) c) (from-lt u 4 c) (column-lt (drop 8 u) c)
+
+  rows-differ : statedParity u .rows ⊕ parities (drop 8 u) .rows ≡ number 64 (rowDiffers u)
+  unfolding rowDiffers
+  rows-differ = sym (number-xor 64 (bitFrom u 0) (rowParity (drop 8 u)) (from-lt u 0) (row-lt (drop 8 u)))
+
+  columns-differ : statedParity u .columns ⊕ parities (drop 8 u) .columns ≡ number 64 (columnDiffers u)
+  unfolding columnDiffers
+  columns-differ = sym (number-xor 64 (bitFrom u 4) (columnParity (drop 8 u)) (from-lt u 4) (column-lt (drop 8 u)))
+
+  -- what the five cases find of them is what is found of the unit
+  pub cases-find : (s p : Sums) → s ≡ statedParity u → p ≡ parities (drop 8 u)
+      → fiveCases (ones (s .rows ⊕ p .rows)) (ones (s .columns ⊕ p .columns)) (leadingZeros 64 (s .rows ⊕ p .rows)) (leadingZeros 64 (s .columns ⊕ p .columns))
+      (length u - 8) ≡ finding u
+  unfolding finding
+  cases-find s p e f =
+      let r : s .rows ⊕ p .rows ≡ number 64 (rowDiffers u) = ap₂ (λ (x y : Sums). x .rows ⊕ y .rows) e f ∙ rows-differ in
+      let c : s .columns ⊕ p .columns ≡ number 64 (columnDiffers u) = ap₂ (λ (x y : Sums). x .columns ⊕ y .columns) e f ∙ columns-differ in
+      ap₂ (λ (x y : ℕ). fiveCases (ones x) (ones y) (leadingZeros 64 x) (leadingZeros 64 y) (length u - 8)) r c
+      ∙ same (ones-sum (rowDiffers u) row-bits 64) (ones-sum (columnDiffers u) column-bits 64) (leading-first 64 (rowDiffers u) row-bits)
+      (leading-first 64 (columnDiffers u) column-bits)
+    where
+      same : {a b c d a′ b′ c′ d′ : ℕ} → a ≡ a′ → b ≡ b′ → c ≡ c′ → d ≡ d′ → fiveCases a b c d (length u - 8) ≡ fiveCases a′ b′ c′ d′ (length u - 8)
+      same p q r s = cc
 
 -- ---- a data bit that is found is one of the data
 
@@ -78,7 +105,7 @@ within R C row column k =
     (either k (eqb R 1 && eqb C 0) (parityBit (row / 16) (15 - row % 16)) _ (λ _. tt)
     (either k (eqb R 0 && eqb C 1) (parityBit (4 + column / 16) (15 - column % 16)) _ (λ _. tt)
     (either k (eqb R 1 && eqb C 1 && ltb word k) (dataBit word (15 - column % 16)) neither
-    (λ e. (ltb-true word k (and-both (eqb R 1 && eqb C 1) (ltb word k) e .1), omega arith)) tt)))
+    (λ e. (ltb-true word k (and-right (eqb R 1 && eqb C 1) (ltb word k) e), omega arith)) tt)))
 
 pub data-within : (u : List ℕ) → Within (length u - 8) (finding u)
 unfolding finding

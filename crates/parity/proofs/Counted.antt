@@ -2,47 +2,21 @@
 -- first place where f is not 0.
 use mathlib.Core.Path.{_≡_, refl, sym, ap, ap₂, _∙_}
 use mathlib.Core.Bool.{true, false}
-use Prim.Native.Nat.{ℕ, zero, suc, _+_, _*_, _%_, _^_, _<_}
-use native.Mathlib.Nat.{zero-add, zero-mul, not-suc-le-zero, le-of-suc-le-suc, pow-suc}
+use Prim.Native.Nat.{ℕ, zero, suc, _+_, _*_, _^_, _<_}
+use native.Mathlib.Nat.{zero-add, zero-mul, pow-suc}
 use native.Mathlib.Numerals.{one-add}
 use native.Mathlib.Omega.{arith}
 use lib.Dec.{eqb}
-use lib.Count.{ones, onesIn, ones-cat, leadingZeros, leading-unique, leading-length}
-use Rattle.base.specs.Xor.{_⊕_}
-use Rattle.parity.specs.Parity.{xorAll, number}
+use lib.Count.{ones, leadingZeros, leading-unique, leading-length}
+use Rattle.parity_rows.specs.Parity.{number}
+use Rattle.parity_rows.proofs.Folds.{number-cong, number-parts, number-lt}
+use Rattle.parity_rows.proofs.Ones.{by-bit, no-ones, ones-more}
 use Rattle.parity.specs.Unit.{sumAll, firstOf}
-use Rattle.parity.proofs.Folds.{number-cong, number-parts, number-lt}
 
--- of a bit there are two cases
-abbrev pub by-bit {ℓ} : (P : ℕ → Type ℓ) → P 0 → P 1 → (x : ℕ) → x < 2 → P x
-by-bit P p q zero h = p
-by-bit P p q (suc zero) h = q
-by-bit P p q (suc (suc x)) h = absurd (not-suc-le-zero (le-of-suc-le-suc (le-of-suc-le-suc h)))
-
-ones-bit : (x : ℕ) → x < 2 → ones x ≡ x
-unfolding ones onesIn
-ones-bit = by-bit (λ x. ones x ≡ x) refl refl
-
--- a bit more makes a sum odd or even
-more-odd : (m x : ℕ) → x < 2 → m % 2 ⊕ x ≡ (m + x) % 2
-more-odd m x h =
-    let e : (m % 2 + x) % 2 ≡ (m + x) % 2 = omega arith in
-    by-bit (λ n. n ⊕ x ≡ (n + x) % 2) (by-bit (λ y. 0 ⊕ y ≡ (0 + y) % 2) refl refl x h) (by-bit (λ y. 1 ⊕ y ≡ (1 + y) % 2) refl refl x h) (m % 2) (omega arith) ∙ e
-
-module _ (f : ℕ → ℕ) (bits : (i : ℕ) → f i < 2) where
-  pub ones-sum : (n : ℕ) → ones (number n f) ≡ sumAll n f
-  unfolding number sumAll
-  ones-sum zero = ones-bit 0 (omega arith)
-  ones-sum (suc n) = ones-cat 1 (number n f) (f n) (bits n) ∙ ap₂ (λ (x y : ℕ). x + y) (ones-sum n) (ones-bit (f n) (bits n))
-
-  pub odd-sum : (n : ℕ) → xorAll n f ≡ sumAll n f % 2
-  unfolding xorAll sumAll
-  odd-sum zero = refl
-  odd-sum (suc n) = ap (λ (x : ℕ). x ⊕ f n) (odd-sum n) ∙ more-odd (sumAll n f) (f n) (bits n)
-
-  -- so the exclusive or of the digits is the oddness of the ones
-  pub odd-ones : (n : ℕ) → ones (number n f) % 2 ≡ xorAll n f
-  odd-ones n = ap (λ (x : ℕ). x % 2) (ones-sum n) ∙ sym (odd-sum n)
+pub ones-sum : (f : ℕ → ℕ) → ((i : ℕ) → f i < 2) → (n : ℕ) → ones (number n f) ≡ sumAll n f
+unfolding sumAll
+ones-sum f bits zero = no-ones f bits
+ones-sum f bits (suc n) = ones-more f bits n ∙ ap (λ (x : ℕ). x + f n) (ones-sum f bits n)
 
 -- one digit more at the top
 leading-zero : (n a : ℕ) → a < 2 ^ n → leadingZeros (suc n) a ≡ suc (leadingZeros n a)

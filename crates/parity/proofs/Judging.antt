@@ -6,16 +6,18 @@ use Prim.Native.Nat.{ℕ, _-_, _<_, _≤_}
 use native.Mathlib.Omega.{arith}
 use lib.Dec.{leb, ltb, eqb}
 use lib.Count.{ones, leadingZeros}
-use lib.ListN.{length}
+use lib.ListN.{length, drop}
 use borrow.Author.Tests.{leb-true, le-ltb, lt-ltb, eqb-true}
 use mathlib.Core.Logic.{_⊎_, inl, inr, ⊎-elim}
+use Rattle.base.specs.Xor.{_⊕_}
 use Rattle.base.proofs.Refused.{answer-no, answer-yes}
 use Rattle.base.specs.Refusal.{answer, wrongLength, wrongParity, noRoom}
+use Rattle.parity_rows.specs.declared.Sums.{Sums}
+use Rattle.parity_rows.specs.Parity.{parities, statedParity}
 use Rattle.parity.specs.declared.Judged.{Judged}
-use Rattle.parity.specs.declared.rows.Sums.{Sums}
 use Rattle.parity.specs.Unit.{Finding, sound, parityBit, dataBit, neither, fiveCases, finding, isNeither, named, refused, notUnit, judgeVerdict, judgeReply, checkVerdict, checkReply}
-use Rattle.parity.specs.Sums.{differences, answerOf}
-use Rattle.parity.proofs.Cases.{found}
+use Rattle.parity.specs.Answered.{answerOf}
+use Rattle.parity.proofs.Cases.{cases-find}
 
 -- a length between two limits
 pub between : (a b n : ℕ) → not (leb a n && leb n b) ≡ false → (a ≤ n) × (n ≤ b)
@@ -42,11 +44,11 @@ judgement u h = simp h (by-finding (finding u))
     by-finding (dataBit w b) = refl
     by-finding neither = refl
 
--- from the differences
-pub judged-by : (u : List ℕ) (d : Sums) (r : Judged) → notUnit (length u) ≡ false → d ≡ differences u
-    → r ≡ answerOf (fiveCases (ones (d .rows)) (ones (d .columns)) (leadingZeros 64 (d .rows)) (leadingZeros 64 (d .columns)) (length u - 8)) (length u - 8)
+-- from the parity that the unit states and that of its data
+pub judged-by : (u : List ℕ) (s p : Sums) (r : Judged) → notUnit (length u) ≡ false → s ≡ statedParity u → p ≡ parities (drop 8 u)
+    → r ≡ answerOf (fiveCases (ones (s .rows ⊕ p .rows)) (ones (s .columns ⊕ p .columns)) (leadingZeros 64 (s .rows ⊕ p .rows)) (leadingZeros 64 (s .columns ⊕ p .columns)) (length u - 8)) (length u - 8)
     → r ≡ judgeReply u
-judged-by u d r h p e = e ∙ ap (λ (f : Finding). answerOf f (length u - 8)) (found u d p) ∙ judgement u h
+judged-by u s p r h e f q = q ∙ ap (λ (x : Finding). answerOf x (length u - 8)) (cases-find u s p e f) ∙ judgement u h
 
 -- ---- the number in a reply
 
@@ -114,17 +116,17 @@ module _ (u : List ℕ) (m : ℕ) where
       sym (ap (λ (n : ℕ). answer n refused x) v ∙ answer-no noRoom refused x (λ y. omega (arith, y)))
 
   module _ (r : Judged) (e : r ≡ judgeReply u) where
-    number : r .refusal ≡ judgeVerdict u
-    number = ap (λ (s : Judged). s .refusal) e ∙ judged-refusal u
+    reply-number : r .refusal ≡ judgeVerdict u
+    reply-number = ap (λ (s : Judged). s .refusal) e ∙ judged-refusal u
 
-    long : r .refusal ≡ 0 → r .length .0 ≡ length u - 8
-    long z = ap (λ (s : Judged). s .length .0) e ∙ judged-length (sym number ∙ z)
+    reply-length : r .refusal ≡ 0 → r .length .0 ≡ length u - 8
+    reply-length z = ap (λ (s : Judged). s .length .0) e ∙ judged-length (sym reply-number ∙ z)
 
-    pub as-judged : (r .refusal ≡ 0 → ⊥) → r ≡ checkReply u m
-    as-judged h = e ∙ judged-checked (inl (λ z. h (number ∙ z)))
+    pub refused-as-judged : (r .refusal ≡ 0 → ⊥) → r ≡ checkReply u m
+    refused-as-judged h = e ∙ judged-checked (inl (λ z. h (reply-number ∙ z)))
 
-    pub no-room : r .refusal ≡ 0 → m < r .length .0 → refused noRoom ≡ checkReply u m
-    no-room z h = refused-room (sym number ∙ z) (omega (arith, long z))
+    pub refused-for-room : r .refusal ≡ 0 → m < r .length .0 → refused noRoom ≡ checkReply u m
+    refused-for-room z h = refused-room (sym reply-number ∙ z) (omega (arith, reply-length z))
 
-    pub room-enough : r .refusal ≡ 0 → r .length .0 ≤ m → r ≡ checkReply u m
-    room-enough z h = e ∙ judged-checked (inr (omega (arith, long z)))
+    pub accepted-as-judged : r .refusal ≡ 0 → r .length .0 ≤ m → r ≡ checkReply u m
+    accepted-as-judged z h = e ∙ judged-checked (inr (omega (arith, reply-length z)))

@@ -1,12 +1,5 @@
-pub mod Folds
-pub mod Words
 pub mod Counted
-pub mod ByRows
-pub mod Differences
-pub mod Spot
 pub mod Cases
 pub mod Judging
 pub mod Checking
 pub mod Writing
-pub mod Flips
-pub mod SingleFlip

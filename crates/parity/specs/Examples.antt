@@ -1,10 +1,11 @@
--- Document 01, "Examples to prove", 4 to 7, by computation; each has k = 1. And the order of the causes.
+-- FORMAT, "Parity units", the examples 4 to 7, by computation; each has k = 1. And the order of the causes.
 use mathlib.Core.Path.{_≡_, refl}
 use mathlib.Core.Bool.{true}
 use mathlib.Core.List.{List, [], _∷_}
 use Prim.Native.Nat.{ℕ}
 use Rattle.base.specs.Refusal.{answer, followsPaper}
-use Rattle.parity.specs.Parity.{xorAll, number, bitOf, bitFrom, rowParity, columnParity, rowWord, columnWord, parityWords}
+use Rattle.base.specs.Number.{bitOf}
+use Rattle.parity_rows.specs.Parity.{xorAll, number, bitFrom, rowParity, columnParity, rowWord, columnWord, parityWords}
 use Rattle.parity.specs.Unit.{unitOf, flipped, rowDiffers, columnDiffers, sumAll, firstOf, fiveCases, finding, unitData, judgeVerdict, judgeReply, reply, refused, judgeCauses, checkCauses, writeCauses}
 
 -- 4: data 8000h: parity words 0 and 4 are 8000h, others 0
@@ -35,7 +36,7 @@ pub example7 : judgeReply (0x4000 ∷ 0 ∷ 0 ∷ 0 ∷ 0x8000 ∷ 0 ∷ 0 ∷ 0
 unfolding xorAll bitOf bitFrom rowParity columnParity rowDiffers columnDiffers sumAll firstOf fiveCases finding judgeVerdict judgeReply answer
 example7 = refl
 
--- ---- every call's causes follow the paper's order
+-- ---- every call's causes follow the rules' order
 
 pub in-order : (u : List ℕ) (k room : ℕ) → (followsPaper (judgeCauses u) ≡ true) × (followsPaper (checkCauses u room) ≡ true) × (followsPaper (writeCauses k room) ≡ true)
 in-order u k room = (refl, refl, refl)

@@ -1,4 +1,3 @@
-pub mod Parity
 pub mod Unit
-pub mod Sums
+pub mod Answered
 pub mod Examples

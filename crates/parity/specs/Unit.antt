@@ -1,4 +1,4 @@
--- Document 01, "Parity units": what the writer writes, what the judge and the checker answer, and the data of a unit.
+-- FORMAT, "Parity units": what the writer writes, what the judge and the checker answer, and the data of a unit.
 use mathlib.Core.Bool.{Bool, true, false, cond, not, _&&_}
 use mathlib.Core.List.{List, [], _∷_, _++_}
 use Prim.Native.Nat.{ℕ, zero, suc, _+_, _-_, _*_, _/_, _%_, _^_}
@@ -9,7 +9,7 @@ use Rattle.base.specs.Room.{put}
 use Rattle.base.specs.Refusal.{Causes, verdict, answer, settled, wrongLength, wrongParity, noRoom}
 use Rattle.base.specs.declared.Written.{Written}
 use Rattle.parity.specs.declared.Judged.{Judged}
-use Rattle.parity.specs.Parity.{bitFrom, rowParity, columnParity, parityWords}
+use Rattle.parity_rows.specs.Parity.{bitFrom, rowParity, columnParity, parityWords}
 
 -- a unit is 8 parity words, then the data words
 unfoldable pub unitOf : List ℕ → List ℕ
@@ -115,7 +115,7 @@ judgeReply u = answer (judgeVerdict u) refused (named (finding u) (length u - 8)
 -- ---- the checker: the judge's answer, or 3 where the room has fewer than k words; the data go to the room
 
 abbrev pub checkCauses : List ℕ → ℕ → Causes
-checkCauses u room = (wrongLength, notUnit (length u)) ∷ (wrongParity, isNeither (finding u)) ∷ (noRoom, ltb room (length u - 8)) ∷ []
+checkCauses u room = judgeCauses u ++ (noRoom, ltb room (length u - 8)) ∷ []
 
 unfoldable pub checkVerdict : List ℕ → ℕ → ℕ
 checkVerdict u room = verdict (checkCauses u room)

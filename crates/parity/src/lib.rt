@@ -1,7 +1,4 @@
 // Parity units: written, judged, checked and repaired.
-mod rows;
-
-use crate::rows::Sums;
 use base::Words;
 use base::Written;
 use base::refusal;
@@ -10,7 +7,7 @@ ghost use mathlib.Core.Path.{_≡_};
 ghost use Prim.Native.Nat.{_-_, _%_, _≤_};
 ghost use lib.ListN.{length};
 ghost use Rattle.parity.specs.Unit.{reply, refused, fiveCases, judgeReply, checkReply, checkRoom, writeReply, writeRoom};
-ghost use Rattle.parity.specs.Sums.{differences, answerOf};
+ghost use Rattle.parity.specs.Answered.{answerOf};
 
 // What is found of a unit: the case (0 sound, 1 a parity bit was hit, 2 a data bit was hit and is repaired), the parity or data
 // word and the bit that was hit, zeros if sound, and the number of data words.
@@ -74,18 +71,6 @@ fn five_cases(r: u32, c: u32, row: usize, column: usize, k: usize) -> Judged
     refused(refusal::PARITY)
 }
 
-// Which rows and columns have another parity than the unit's parity words say.
-fn differing(unit: &[u16]) -> Sums
-    requires { ⌜ (9 ≤ length (now unit)) × (length (now unit) ≤ 264) ⌝ }
-    ensures { λ r. ⌜ r ≡ differences (now (unit .entry)) ⌝ }
-{
-    let p = rows::parity(&unit[8..]);
-    Sums {
-        rows: rows::bits_from(unit, 0) ^ p.rows,
-        columns: rows::bits_from(unit, 4) ^ p.columns,
-    }
-}
-
 // What stands in a unit, without its data.
 pub fn judge_unit(unit: &[u16]) -> Judged
     ensures { λ r. ⌜ r ≡ judgeReply (now (unit .entry)) ⌝ }
@@ -94,12 +79,15 @@ pub fn judge_unit(unit: &[u16]) -> Judged
     if !((9 <= n) & (n <= 264)) {
         return refused(refusal::LENGTH);
     }
-    let d = differing(unit);
+    let stated = parity_rows::stated(unit);
+    let found = parity_rows::parity(&unit[8..]);
+    let rows = stated.rows ^ found.rows;
+    let columns = stated.columns ^ found.columns;
     five_cases(
-        u64::count_ones(d.rows),
-        u64::count_ones(d.columns),
-        u64::leading_zeros(d.rows) as usize,
-        u64::leading_zeros(d.columns) as usize,
+        u64::count_ones(rows),
+        u64::count_ones(columns),
+        u64::leading_zeros(rows) as usize,
+        u64::leading_zeros(columns) as usize,
         n - 8,
     )
 }
@@ -160,8 +148,7 @@ pub fn write_unit(data: &[u16], room: &mut [u16]) -> Written
     if r.refusal != 0 {
         return r;
     }
-    let parity = rows::parity_words(rows::parity(data));
-    room::put_words(&parity, room, Words(0));
-    room::put_words(data, room, Words(8));
+    let parity = parity_rows::parity_words(data);
+    room::put_joined(&parity, data, room);
     r
 }

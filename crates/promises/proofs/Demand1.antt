@@ -5,22 +5,24 @@ use mathlib.Core.List.{List, []}
 use lib.ListN.{length}
 use Rattle.base.specs.Refusal.{Causes, verdict, answer, settled}
 use Rattle.base.proofs.Refused.{answer-no}
-use Rattle.chunk.specs.Replies.{surveyCauses, atCauses}
-use Rattle.chunk.specs.Writing as chunk
+use Rattle.chunk_reading.specs.Counting.{surveyCauses}
+use Rattle.chunk_reading.specs.Place.{atCauses}
+use Rattle.chunk_writing.specs.Writing as chunk
 use Rattle.parity.specs.Unit as parity
-use Rattle.health.specs.Reading.{readCauses, readReply}
+use Rattle.health.specs.Reading as packet
 use Rattle.health.specs.Writing as health
-use Rattle.health_fields.specs.Observation.{observationCauses, observationReply}
-use Rattle.health_fields.specs.Checksums.{checksumsCauses, checksumsReply}
-use Rattle.health_fields.specs.Upsets.{upsetsCauses, upsetsReply}
+use Rattle.health_observation.specs.Observation as observation
+use Rattle.health_checksums.specs.Checksums as checksums
+use Rattle.health_upsets.specs.Upsets as upsets
 use Rattle.health_last.specs.Last as last
-use Rattle.command.specs.Calls as command
+use Rattle.command_reading.specs.Reading as commandReading
+use Rattle.command_writing.specs.Writing as commandWriting
 use Rattle.chunk_register.specs.Register as register
 use Rattle.chunk_outline.specs.Outline as outline
-use Rattle.frame.specs.Replies as frame
+use Rattle.frame_reading.specs.Replies as frame
 use Rattle.program_input.specs.Input as input
 use Rattle.reel.specs.Reading as reelReading
-use Rattle.reel.specs.Writing as reelWriting
+use Rattle.reel_writing.specs.Writing as reelWriting
 use Rattle.health_last.specs.declared.Place.{Place}
 use Rattle.promises.specs.Demand1.{Determined, Ordered, Refuses, Spares, Refusing}
 
@@ -38,7 +40,7 @@ ordered =
       writeUnit = λ k room. refl;
       judgeUnit = λ u. refl;
       checkUnit = λ u room. refl;
-      readReply = λ p. refl;
+      readPacket = λ p. refl;
       writePacket = λ t n room. refl;
       observation = λ p. refl;
       checksums = λ p. refl;
@@ -67,7 +69,7 @@ unfolding last.partAt
 no-part v science health = refl
 
 pub refusing : Refusing
-unfolding settled chunk.writeRoom register.listReply register.listRoom outline.outlineReply parity.writeVerdict parity.writeReply parity.writeRoom parity.judgeVerdict parity.judgeReply parity.checkVerdict parity.checkReply parity.checkRoom readReply health.writeRoom observationReply checksumsReply upsetsReply last.lastPlaceReply command.readReply command.given command.furtherReply command.settled command.writeReply command.writeRoom frame.atReply frame.judgeReply frame.readReply frame.readRoom reelWriting.writeReply reelWriting.writeRoom reelReading.readReply input.wordsReply input.wordsRoom
+unfolding settled chunk.writeRoom register.listReply register.listRoom outline.outlineReply parity.writeVerdict parity.writeReply parity.writeRoom parity.judgeVerdict parity.judgeReply parity.checkVerdict parity.checkReply parity.checkRoom packet.readReply health.writeRoom observation.observationReply checksums.checksumsReply upsets.upsetsReply last.lastPlaceReply commandReading.readReply commandReading.given commandReading.furtherReply commandWriting.settled commandWriting.writeReply commandWriting.writeRoom frame.atReply frame.judgeReply frame.readReply frame.readRoom reelWriting.writeReply reelWriting.writeRoom reelReading.readReply input.wordsReply input.wordsRoom
 refusing =
     record {
       survey = λ sync ws. refuses (surveyCauses ws) _ _;
@@ -83,19 +85,19 @@ refusing =
       judgeUnit = λ u. refuses (parity.judgeCauses u) _ _;
       checkUnit = λ u room. refuses (parity.checkCauses u room) _ _;
       dataRoom = λ u room. spares (parity.checkCauses u (length room)) _ _;
-      readReply = λ p. refuses (readCauses p) _ _;
+      readPacket = λ p. refuses (packet.readCauses p) _ _;
       writePacket = λ t n room. refuses (health.writeCauses t n room) _ _;
       packetRoom = λ t s ws room. spares (health.writeCauses t (length ws) (length room)) _ _;
-      observation = λ p. refuses (observationCauses p) _ _;
-      checksums = λ p. refuses (checksumsCauses p) _ _;
-      upsets = λ p. refuses (upsetsCauses p) _ _;
+      observation = λ p. refuses (observation.observationCauses p) _ _;
+      checksums = λ p. refuses (checksums.checksumsCauses p) _ _;
+      upsets = λ p. refuses (upsets.upsetsCauses p) _ _;
       lastPlace = λ sync t ws hs. refuses (last.lastCauses sync ws hs t) _ _;
       lastPacket = λ sync t ws hs h.
           ap (λ (s : Place). last.partAt s ws hs) (refuses (last.lastCauses sync ws hs t) _ _ h) ∙ no-part (verdict (last.lastCauses sync ws hs t)) ws hs;
-      readCommand = λ c m bs. refuses (command.readCauses c m bs) _ _;
-      further = λ c m bs. refuses (command.readCauses c m bs) _ _;
-      writeCommand = λ c m room f xs. refuses (command.writeCauses c m f xs room) _ _;
-      commandRoom = λ c m f xs room. spares (command.writeCauses c m f xs (length room)) _ _;
+      readCommand = λ c m bs. refuses (commandReading.readCauses c m bs) _ _;
+      further = λ c m bs. refuses (commandReading.readCauses c m bs) _ _;
+      writeCommand = λ c m room f xs. refuses (commandWriting.writeCauses c m f xs room) _ _;
+      commandRoom = λ c m f xs room. spares (commandWriting.writeCauses c m f xs (length room)) _ _;
       frameAt = λ sync p ws. refuses (frame.atCauses sync ws p) _ _;
       judgeFrame = λ sync p ws. refuses (frame.judgeCauses sync ws p) _ _;
       readFrame = λ sync p m ws. refuses (frame.readCauses sync ws p m) _ _;

@@ -7,15 +7,16 @@ use Rattle.base.specs.Room.{put}
 use Rattle.crc.specs.Crc.{crcBit, crcStep}
 use Rattle.chunk.specs.Header.{legalSize, legal, headed, ends, confirmed}
 use Rattle.chunk.specs.Reading.{listed, skippedFrom}
-use Rattle.chunk.specs.Replies.{surveyed, surveyReply}
-use Rattle.parity.specs.Parity.{xorAll, number, bitOf, bitFrom, rowParity, columnParity, rowWord, columnWord, parityWords}
+use Rattle.chunk_reading.specs.Counting.{surveyed, surveyReply}
+use Rattle.base.specs.Number.{bitOf}
+use Rattle.parity_rows.specs.Parity.{xorAll, number, bitFrom, rowParity, columnParity, rowWord, columnWord, parityWords}
 use Rattle.parity.specs.Unit.{unitOf, flipped, rowDiffers, columnDiffers, sumAll, firstOf, fiveCases, finding, unitData, checkVerdict, writeVerdict, reply, refused, checkReply, checkRoom, writeRoom}
 use Rattle.health.specs.Packet.{packetCrc}
 use Rattle.health.specs.Writing.{writtenCrc}
-use Rattle.health_fields.specs.Upsets.{upset, upsetTable, upsetsReply}
+use Rattle.health_upsets.specs.Upsets.{upset, upsetTable, upsetsReply}
 use Rattle.command_catalogue.specs.Table.{table, permits}
 use Rattle.command.specs.Layout.{commandBytes}
-use Rattle.command.specs.Calls.{command, noFields, given, readReply}
+use Rattle.command_reading.specs.Reading.{command, noFields, given, readReply}
 use Rattle.promises.specs.Examples.{Examples, unit, upsetPacket, submode, patch}
 
 surveys : (surveyReply 0x5AF3 [] ≡ surveyed 0 0 0) × (surveyReply 0x5AF3 (0x5AF3 ∷ []) ≡ surveyed 0 0 1)

@@ -5,26 +5,28 @@ use Prim.Native.Nat.{ℕ}
 use mathlib.Core.Path.{_≡_}
 use mathlib.Core.Bool.{true}
 use mathlib.Core.List.{List, []}
-use lib.ListN.{length, replicate}
+use lib.ListN.{length}
 use Rattle.base.specs.Refusal.{Causes, followsPaper, verdict, wrote}
 use Rattle.chunk.specs.declared.Entry.{Entry}
-use Rattle.chunk.specs.Replies.{surveyCauses, atCauses, surveyed, surveyReply, heading, atReply, payloadReply}
-use Rattle.chunk.specs.Writing as chunk
+use Rattle.chunk_reading.specs.Counting.{surveyCauses, surveyed, surveyReply}
+use Rattle.chunk_reading.specs.Place.{atCauses, heading, atReply, payloadReply}
+use Rattle.chunk_writing.specs.Writing as chunk
 use Rattle.parity.specs.Unit as parity
-use Rattle.health.specs.Reading.{readCauses, packetOf, readReply}
+use Rattle.health.specs.Reading as packet
 use Rattle.health.specs.Writing as health
-use Rattle.health_fields.specs.Observation.{observationCauses, noObservation, observationReply}
-use Rattle.health_fields.specs.Checksums.{checksumsCauses, checksumsReply}
-use Rattle.health_fields.specs.Upsets.{upsetsCauses, upset, upsetTable, upsetsReply}
+use Rattle.health_observation.specs.Observation as observation
+use Rattle.health_checksums.specs.Checksums as checksums
+use Rattle.health_upsets.specs.Upsets as upsets
 use Rattle.health_last.specs.Last as last
 use Rattle.command.specs.declared.Fields.{Fields}
-use Rattle.command.specs.Calls as command
+use Rattle.command_reading.specs.Reading as commandReading
+use Rattle.command_writing.specs.Writing as commandWriting
 use Rattle.chunk_register.specs.Register as register
 use Rattle.chunk_outline.specs.Outline as outline
-use Rattle.frame.specs.Replies as frame
+use Rattle.frame_reading.specs.Replies as frame
 use Rattle.program_input.specs.Input as input
 use Rattle.reel.specs.Reading as reelReading
-use Rattle.reel.specs.Writing as reelWriting
+use Rattle.reel_writing.specs.Writing as reelWriting
 
 -- ---- one answer only
 
@@ -44,14 +46,14 @@ pub record Ordered : Type 0 where
   pub writeUnit : (k room : ℕ) → followsPaper (parity.writeCauses k room) ≡ true
   pub judgeUnit : (u : List ℕ) → followsPaper (parity.judgeCauses u) ≡ true
   pub checkUnit : (u : List ℕ) (room : ℕ) → followsPaper (parity.checkCauses u room) ≡ true
-  pub readReply : (p : List ℕ) → followsPaper (readCauses p) ≡ true
+  pub readPacket : (p : List ℕ) → followsPaper (packet.readCauses p) ≡ true
   pub writePacket : (t n room : ℕ) → followsPaper (health.writeCauses t n room) ≡ true
-  pub observation : (p : List ℕ) → followsPaper (observationCauses p) ≡ true
-  pub checksums : (p : List ℕ) → followsPaper (checksumsCauses p) ≡ true
-  pub upsets : (p : List ℕ) → followsPaper (upsetsCauses p) ≡ true
+  pub observation : (p : List ℕ) → followsPaper (observation.observationCauses p) ≡ true
+  pub checksums : (p : List ℕ) → followsPaper (checksums.checksumsCauses p) ≡ true
+  pub upsets : (p : List ℕ) → followsPaper (upsets.upsetsCauses p) ≡ true
   pub lastPacket : (sync t : ℕ) (ws hs : List ℕ) → followsPaper (last.lastCauses sync ws hs t) ≡ true
-  pub readCommand : (c m : ℕ) (bs : List ℕ) → followsPaper (command.readCauses c m bs) ≡ true
-  pub writeCommand : (c m room : ℕ) (f : Fields) (xs : List ℕ) → followsPaper (command.writeCauses c m f xs room) ≡ true
+  pub readCommand : (c m : ℕ) (bs : List ℕ) → followsPaper (commandReading.readCauses c m bs) ≡ true
+  pub writeCommand : (c m room : ℕ) (f : Fields) (xs : List ℕ) → followsPaper (commandWriting.writeCauses c m f xs room) ≡ true
   pub frameAt : (sync p : ℕ) (ws : List ℕ) → followsPaper (frame.atCauses sync ws p) ≡ true
   pub judgeFrame : (sync p : ℕ) (ws : List ℕ) → followsPaper (frame.judgeCauses sync ws p) ≡ true
   pub readFrame : (sync p m : ℕ) (ws : List ℕ) → followsPaper (frame.readCauses sync ws p m) ≡ true
@@ -84,18 +86,18 @@ pub record Refusing : Type 0 where
   pub judgeUnit : (u : List ℕ) → Refuses (parity.judgeCauses u) (parity.judgeReply u) parity.refused
   pub checkUnit : (u : List ℕ) (room : ℕ) → Refuses (parity.checkCauses u room) (parity.checkReply u room) parity.refused
   pub dataRoom : (u room : List ℕ) → Spares (parity.checkCauses u (length room)) (parity.checkRoom u room) room
-  pub readReply : (p : List ℕ) → Refuses (readCauses p) (readReply p) (λ v. packetOf v 0 0 (replicate 29 0))
+  pub readPacket : (p : List ℕ) → Refuses (packet.readCauses p) (packet.readReply p) packet.refused
   pub writePacket : (t n room : ℕ) → Refuses (health.writeCauses t n room) (health.writeReply t n room) (λ v. wrote v 0)
   pub packetRoom : (t s : ℕ) (ws room : List ℕ) → Spares (health.writeCauses t (length ws) (length room)) (health.writeRoom t s ws room) room
-  pub observation : (p : List ℕ) → Refuses (observationCauses p) (observationReply p) noObservation
-  pub checksums : (p : List ℕ) → Refuses (checksumsCauses p) (checksumsReply p) (λ v. replicate 3 (replicate 8 0))
-  pub upsets : (p : List ℕ) → Refuses (upsetsCauses p) (upsetsReply p) (λ v. upsetTable v 0 0 (replicate 9 (upset 0 0 0)))
+  pub observation : (p : List ℕ) → Refuses (observation.observationCauses p) (observation.observationReply p) observation.refused
+  pub checksums : (p : List ℕ) → Refuses (checksums.checksumsCauses p) (checksums.checksumsReply p) checksums.refused
+  pub upsets : (p : List ℕ) → Refuses (upsets.upsetsCauses p) (upsets.upsetsReply p) upsets.refused
   pub lastPlace : (sync t : ℕ) (ws hs : List ℕ) → Refuses (last.lastCauses sync ws hs t) (last.lastPlaceReply sync ws hs t) (λ v. last.place v 0 0)
   pub lastPacket : (sync t : ℕ) (ws hs : List ℕ) → Refuses (last.lastCauses sync ws hs t) (last.lastPacketReply sync ws hs t) (λ v. [])
-  pub readCommand : (c m : ℕ) (bs : List ℕ) → Refuses (command.readCauses c m bs) (command.readReply c m bs) (λ v. command.command v command.noFields 0)
-  pub further : (c m : ℕ) (bs : List ℕ) → Refuses (command.readCauses c m bs) (command.furtherReply c m bs) (λ v. [])
-  pub writeCommand : (c m room : ℕ) (f : Fields) (xs : List ℕ) → Refuses (command.writeCauses c m f xs room) (command.writeReply c m f xs room) (λ v. command.sent v 0)
-  pub commandRoom : (c m : ℕ) (f : Fields) (xs room : List ℕ) → Spares (command.writeCauses c m f xs (length room)) (command.writeRoom c m f xs room) room
+  pub readCommand : (c m : ℕ) (bs : List ℕ) → Refuses (commandReading.readCauses c m bs) (commandReading.readReply c m bs) commandReading.refused
+  pub further : (c m : ℕ) (bs : List ℕ) → Refuses (commandReading.readCauses c m bs) (commandReading.furtherReply c m bs) (λ v. [])
+  pub writeCommand : (c m room : ℕ) (f : Fields) (xs : List ℕ) → Refuses (commandWriting.writeCauses c m f xs room) (commandWriting.writeReply c m f xs room) commandWriting.refused
+  pub commandRoom : (c m : ℕ) (f : Fields) (xs room : List ℕ) → Spares (commandWriting.writeCauses c m f xs (length room)) (commandWriting.writeRoom c m f xs room) room
   pub frameAt : (sync p : ℕ) (ws : List ℕ) → Refuses (frame.atCauses sync ws p) (frame.atReply sync ws p) frame.refused
   pub judgeFrame : (sync p : ℕ) (ws : List ℕ) → Refuses (frame.judgeCauses sync ws p) (frame.judgeReply sync ws p) frame.refused
   pub readFrame : (sync p m : ℕ) (ws : List ℕ) → Refuses (frame.readCauses sync ws p m) (frame.readReply sync ws p m) frame.refused

@@ -5,14 +5,14 @@ use mathlib.Core.Bool.{true, false}
 use mathlib.Core.List.{List, [], _∷_, map}
 use lib.ListN.{getD, replicate}
 use Rattle.chunk.specs.Header.{legalSize, legal}
-use Rattle.chunk.specs.Replies.{surveyed, surveyReply}
+use Rattle.chunk_reading.specs.Counting.{surveyed, surveyReply}
 use Rattle.crc.specs.Crc.{crcWords}
 use Rattle.parity.specs.Unit.{reply, refused, checkReply, checkRoom, writeRoom}
 use Rattle.health.specs.Writing.{packetFrom}
-use Rattle.health_fields.specs.Upsets.{upset, upsetTable, upsetsReply}
+use Rattle.health_upsets.specs.Upsets.{upset, upsetTable, upsetsReply}
 use Rattle.command.specs.declared.Fields.{Fields}
 use Rattle.command.specs.Layout.{commandBytes}
-use Rattle.command.specs.Calls.{command, noFields, readReply}
+use Rattle.command_reading.specs.Reading.{command, noFields, readReply}
 
 -- ---- what the examples are about
 

@@ -1,13 +1,13 @@
 -- `command_catalogue::judge` meets its contract: a nest of four causes.
 use borrow.Author.Needs.{needs}
-use Rattle.command_catalogue.proofs.Judged.{judged}
+use Rattle.command_catalogue.proofs.Judged.{verdict-by-parts}
 use Rattle.command_catalogue.proofs.judge.Statement.{statement}
 use Rattle.command_catalogue.proofs.judge.Tie as tie
 
 returns : tie.Need-returns
 returns c =
     let a = c .before .before .before .before .before .before .before .before .before .before .args in
-    judged (a .catalogue) (a .mode) (a .command-type) (a .qualifier) (a .address) (a .«data») (a .further .now) (c .before .before .before .before .before .before .before .before .look-up .ensures)
+    verdict-by-parts (a .catalogue) (a .mode) (a .command-type) (a .qualifier) (a .address) (a .«data») (a .further .now) (c .before .before .before .before .before .before .before .before .look-up .ensures)
     (c .before .before .before .before .before .before .before .fields-wrong .ensures) (c .before .before .before .before .before .before .further-wrong .ensures) (c .before .before .before .before .cause .ensures) (c .before .before .before .cause2 .ensures) (c .before .before .cause3 .ensures)
     (c .cause4 .ensures)
 

@@ -1,8 +1,11 @@
 -- `parity::judge_unit` meets its contract: by its test of the length, and then by what the five cases find.
-use mathlib.Core.Path.{_∙_}
+use mathlib.Core.Path.{ap, _∙_}
 use native.Mathlib.Omega.{arith}
 use lib.ListN.{length}
 use lib.Count.{leading-le}
+use Rattle.base.specs.Xor.{_⊕_}
+use Rattle.base.proofs.RoomLaws.{to-end}
+use Rattle.parity_rows.specs.Parity.{parities}
 use Rattle.parity.proofs.Judging.{between, wrong-length, judged-by}
 use borrow.Author.Needs.{needs}
 use Rattle.parity.proofs.judge_unit.Statement.{statement}
@@ -11,23 +14,32 @@ use Rattle.parity.proofs.judge_unit.Tie as tie
 returns : tie.Need-returns
 returns c = c .refused .ensures ∙ wrong-length _ (c .before .if1 .taken)
 
-differing-requires : tie.Need-differing-requires
-differing-requires c κs = between 9 264 _ (c .if1 .left)
+sub-parity : tie.Need-sub-parity
+sub-parity c = omega (arith, between 9 264 (length (c .before .before .before .args .unit .now)) (c .before .if1 .left) .0)
+
+part-parity-start : tie.Need-part-parity-start
+part-parity-start c = omega (arith, between 9 264 (length (c .before .before .before .args .unit .now)) (c .before .if1 .left) .0)
 
 cast-five-cases : tie.Need-cast-five-cases
-cast-five-cases c = omega (arith, leading-le 64 (c .before .before .before .differing .result .rows))
+cast-five-cases c = omega (arith, leading-le 64 (c .before .before .before .before .before .before .stated .result .rows ⊕ c .before .before .before .before .parity .result .rows))
 
 cast-five-cases-2 : tie.Need-cast-five-cases-2
-cast-five-cases-2 c = omega (arith, leading-le 64 (c .before .before .before .before .differing .result .columns))
+cast-five-cases-2 c = omega (arith, leading-le 64 (c .before .before .before .before .before .before .stated .result .columns ⊕ c .before .before .before .before .parity .result .columns))
 
 sub-five-cases : tie.Need-sub-five-cases
-sub-five-cases c = omega (arith, between 9 264 (length (c .before .before .before .before .before .before .before .args .unit .now)) (c .before .before .before .before .before .if1 .left) .0)
+sub-five-cases c =
+    let stated = c .before .before .before .before .before .before in
+    omega (arith, between 9 264 (length (stated .before .before .before .args .unit .now)) (stated .before .if1 .left) .0)
 
 five-cases-requires : tie.Need-five-cases-requires
-five-cases-requires c κs = (leading-le 64 (c .before .before .before .before .differing .result .rows), leading-le 64 (c .before .before .before .before .differing .result .columns))
+five-cases-requires c κs = (leading-le 64 _, leading-le 64 _)
 
 returns-2 : tie.Need-returns-2
-returns-2 c = judged-by _ _ _ (c .before .before .before .before .before .before .if1 .left) (c .before .before .before .before .before .differing .ensures) (c .five-cases .ensures)
+returns-2 c =
+    let parity = c .before .before .before .before .before in
+    let stated = parity .before .before in
+    let u = stated .before .before .before .args .unit .now in
+    judged-by u _ _ _ (stated .before .if1 .left) (stated .stated .ensures) (parity .parity .ensures ∙ ap parities (to-end 8 u)) (c .five-cases .ensures)
 
 pub judge-unit-spec : {M : Type 1} → statement M
 judge-unit-spec =
@@ -35,7 +47,11 @@ judge-unit-spec =
     (tie.spec
     (λ c κs. search needs)
     returns
-    differing-requires
+    (λ c κs. search needs)
+    sub-parity
+    part-parity-start
+    (λ c. search needs)
+    (λ c κs. search needs)
     cast-five-cases
     cast-five-cases-2
     sub-five-cases

@@ -77,7 +77,7 @@ returns c =
     let r = c .before .args .r in
     let b = c .before .args .block in
     let small : r < 2 ^ 64 = omega arith in
-    c .low .ensures ∙ code-joined (b ⊕ r) (xor-lt 64 b r (c .before .fits .block .fits) small)
+    c .low-word .ensures ∙ code-joined (b ⊕ r) (xor-lt 64 b r (c .before .fits .block .fits) small)
     ∙ sym (into-block r b (c .before .fits .r .fits))
 
 pub sixty-four-spec : {M : Type 1} → statement M

@@ -1,6 +1,6 @@
 -- `health::packet::write_packet` meets its contract: the room on a writer's two ways out.
 use borrow.Author.Needs.{needs}
-use Rattle.health.proofs.Wrote.{untouched, stored}
+use Rattle.health.proofs.packet.Writing.{untouched, stored}
 use Rattle.health.proofs.packet.write_packet.Statement.{statement}
 use Rattle.health.proofs.packet.write_packet.Tie as tie
 
@@ -9,11 +9,11 @@ returns c = (c .before .before .plan .ensures, untouched _ _ _ _ (c .before .bef
 
 returns-2 : tie.Need-returns-2
 returns-2 c =
-    let second = c .before .before in
-    let first = second .before .before .before .before in
-    let crc = first .before .before .before in
-    let e = crc .before .before .before .plan .ensures in
-    (e, stored _ _ _ _ e (crc .before .if1 .left) (crc .crc-of .ensures) (first .put-words .ensures) (second .put-words2 .ensures))
+    let put = c .before .before in
+    let crc = put .before .before .before in
+    let planned = crc .before .before .before in
+    let e = planned .before .before .plan .ensures in
+    (e, stored _ _ _ _ e (planned .if1 .left) (crc .before .words .ensures) (crc .words2 .ensures) (put .put-joined .ensures))
 
 pub write-packet-spec : {M : Type 1} → statement M
 write-packet-spec =
@@ -21,9 +21,10 @@ write-packet-spec =
     (tie.spec
     (λ c κs. search needs)
     returns
-    (λ c κs. search needs)
     (λ c. search needs)
     (λ c κs. search needs)
+    (λ c κs. search needs)
+    (λ c. search needs)
     (λ c κs. search needs)
     (λ c. search needs)
     returns-2)

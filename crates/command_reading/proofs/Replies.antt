@@ -1,0 +1,99 @@
+-- The reader's reply on its two ways out: refused by the arguments or the total, or with the whole packet looked at.
+use mathlib.Core.Path.{_≡_, refl, sym, ap, _∙_}
+use mathlib.Core.Bool.{Bool, true, false, cond, not, _&&_}
+use mathlib.Core.List.{List, []}
+use Prim.Native.Nat.{ℕ, _-_, _/_, _%_, _≤_}
+use native.Mathlib.Omega.{arith}
+use lib.Dec.{eqb}
+use lib.ListN.{length, getD, take, drop}
+use borrow.Author.Tests.{eqb-true}
+use Rattle.base.specs.Refusal.{Causes, verdict, answer, wrongHeader, wrongCrc}
+use Rattle.base.proofs.Refused.{spared, answer-no, answer-yes}
+use Rattle.crc.specs.Crc.{crcStart, crcBytes}
+use Rattle.command_catalogue.proofs.Judged.{cause-by-parts}
+use Rattle.command.specs.declared.Fields.{Fields}
+use Rattle.command_reading.specs.declared.Command.{Command}
+use Rattle.command.specs.Layout.{packetId, word, numberAt, fieldsIn}
+use Rattle.command.specs.Asking.{askedWrong, firstCauses, lastCauses}
+use Rattle.command.proofs.Verdicts.{verdict-stop, verdict-go, verdict-front, total-within}
+use Rattle.command_reading.specs.Reading.{command, refused, headerWrong, crcWrong, packetCauses, readCauses, given, readReply, furtherReply}
+
+-- ---- what stands in a packet
+
+pub header-by-fields : (bs : List ℕ) {l i s : ℕ} → l ≡ numberAt word bs 4 → i ≡ numberAt word bs 0 → s ≡ numberAt word bs 2
+    → not (eqb i packetId && eqb (s / 16384) 3 && eqb l (length bs - 7)) ≡ headerWrong bs
+header-by-fields bs el ei es = cc
+
+-- ---- the verdict on a packet
+
+pub packet-by-causes : (c m : ℕ) (f : Fields) (bs : List ℕ) {k w o s r : ℕ} {h : Bool} → k ≡ crcBytes crcStart (take (length bs - 2) bs)
+    → o ≡ verdict (lastCauses c m f (take (length bs - 2 - 12) (drop 12 bs))) → h ≡ headerWrong bs → w ≡ numberAt word bs (length bs - 2)
+    → s ≡ cond (not (eqb k w)) wrongCrc o → r ≡ cond h wrongHeader s → r ≡ verdict (packetCauses c m f bs)
+packet-by-causes c m f bs {k} {w} {o} {s} {r} {h} ek eo eh ew es er =
+    let l : length bs - 2 - 12 ≡ length bs - 14 = omega arith in
+    let crc : not (eqb k w) ≡ crcWrong bs =
+    ap (λ (x : ℕ). not (eqb x w)) ek ∙ ap (λ (x : ℕ). not (eqb (crcBytes crcStart (take (length bs - 2) bs)) x)) ew
+    in
+    er ∙ cause-by-parts wrongHeader eh (es ∙ cause-by-parts wrongCrc crc (eo ∙ ap (λ (n : ℕ). verdict (lastCauses c m f (take n (drop 12 bs)))) l))
+
+-- ---- the replies
+
+-- a refused reply is the same whatever it would have given
+refused-alike : (v : ℕ) (f g : Fields) (m n : ℕ) → (v ≡ 0 → ⊥) → given v f m ≡ given v g n
+unfolding given
+refused-alike v f g m n h = answer-no v _ _ h ∙ sym (answer-no v _ _ h)
+
+pub given-refusal : (v : ℕ) (f : Fields) (n : ℕ) → given v f n .refusal ≡ v
+unfolding given answer
+given-refusal v f n = by (eqb v 0) refl
+  where
+    by : (b : Bool) → eqb v 0 ≡ b → cond b (command 0 f n) (refused v) .refusal ≡ v
+    by true e = sym (eqb-true v 0 e)
+    by false e = refl
+
+module _ (c m : ℕ) (bs : List ℕ) where
+  abbrev early : Causes
+  early = firstCauses (askedWrong c m) c (length bs)
+
+  abbrev late : Causes
+  late = packetCauses c m (fieldsIn bs) bs
+
+  module _ {a : Bool} {v : ℕ} (ea : a ≡ askedWrong c m) (ev : v ≡ verdict (firstCauses a c (length bs))) where
+    e : v ≡ verdict early
+    e = ev ∙ ap (λ (b : Bool). verdict (firstCauses b c (length bs))) ea
+
+    -- refused by the arguments or the total
+    pub refused-at-first : (v ≡ 0 → ⊥) → (f : Fields) {r : Command} → r ≡ given v f 0 → r ≡ readReply c m bs
+    unfolding readReply
+    refused-at-first h f is =
+        is ∙ refused-alike v f (fieldsIn bs) 0 (length bs - 14) h
+        ∙ ap (λ (x : ℕ). given x (fieldsIn bs) (length bs - 14)) (e ∙ sym (verdict-stop early late (λ z. h (e ∙ z))))
+
+    -- looked at whole
+    pub read-whole : v ≡ 0 → {w : ℕ} {f : Fields} {r : Command} → f ≡ fieldsIn bs → w ≡ verdict (packetCauses c m f bs) → r ≡ given w f (length bs - 14)
+        → r ≡ readReply c m bs
+    unfolding readReply
+    read-whole z {w} {f} ef ew is =
+        is ∙ ap (λ (x : Fields). given w x (length bs - 14)) ef
+        ∙ ap (λ (x : ℕ). given x (fieldsIn bs) (length bs - 14))
+        (ew ∙ ap (λ (x : Fields). verdict (packetCauses c m x bs)) ef ∙ sym (verdict-go early late (spared early refl (sym e ∙ z))))
+
+  -- ---- what the reply's number says, for the further bytes
+
+  module _ {r : Command} (e : r ≡ readReply c m bs) where
+    reply-number : r .refusal ≡ verdict (readCauses c m bs)
+    unfolding readReply
+    reply-number = ap (λ (x : Command). x .refusal) e ∙ given-refusal _ _ _
+
+    pub accepted-within : r .refusal ≡ 0 → (14 ≤ length bs) × (length bs ≤ 227)
+    accepted-within z = total-within (askedWrong c m) c (length bs) (verdict-front early late (sym reply-number ∙ z))
+
+    pub no-further : (r .refusal ≡ 0 → ⊥) → [] ≡ furtherReply c m bs
+    unfolding furtherReply
+    no-further h = sym (answer-no _ _ _ (λ z. h (reply-number ∙ z)))
+
+    pub further-part : r .refusal ≡ 0 → take (length bs - 2 - 12) (drop 12 bs) ≡ furtherReply c m bs
+    unfolding furtherReply
+    further-part z =
+        let l : length bs - 2 - 12 ≡ length bs - 14 = omega arith in
+        ap (λ (k : ℕ). take k (drop 12 bs)) l ∙ sym (answer-yes _ _ _ (sym reply-number ∙ z))

@@ -1,0 +1,105 @@
+// A command, read by one of two catalogues.
+use base::Bytes;
+use base::refusal;
+use command::Fields;
+use command::HEAD;
+use command::ID;
+use command::LEAST;
+use command::SEQUENCE_COUNTS;
+use command::SEQUENCE_TOP;
+use command::word_at;
+use command_catalogue::judge;
+ghost use mathlib.Core.Path.{_≡_};
+ghost use Prim.Native.Nat.{_≤_};
+ghost use lib.ListN.{length};
+ghost use Rattle.base.specs.Refusal.{verdict};
+ghost use Rattle.command_reading.specs.Reading.{headerWrong, packetCauses, given, readReply, furtherReply};
+
+// The reader's reply: the fields and the number of further bytes.
+pub struct Command {
+    pub refusal: u8,
+    pub fields: Fields,
+    pub further: Bytes,
+}
+
+// The reply where a verdict is found.
+fn give(verdict: u8, fields: Fields, further: usize) -> Command
+    ensures { λ r. ⌜ r ≡ given «verdict» fields further ⌝ }
+{
+    if verdict == 0 {
+        return Command {
+            refusal: 0,
+            fields,
+            further: Bytes(further),
+        };
+    }
+    Command {
+        refusal: verdict,
+        fields: Fields {
+            sequence: 0,
+            command_type: 0,
+            qualifier: 0,
+            address: 0,
+            data: 0,
+        },
+        further: Bytes(0),
+    }
+}
+
+fn header_wrong(bytes: &[u8]) -> bool
+    requires { ⌜ 14 ≤ length (now bytes) ⌝ }
+    ensures { λ r. ⌜ r ≡ headerWrong (now (bytes .entry)) ⌝ }
+{
+    let size = word_at(bytes, Bytes(4)) as usize;
+    !((word_at(bytes, Bytes(0)) == ID)
+        & (word_at(bytes, Bytes(2)) / SEQUENCE_COUNTS == SEQUENCE_TOP)
+        & (size == bytes.len() - 7))
+}
+
+// The verdict on a packet of a permitted length: its header, its CRC, then its fields and further bytes.
+fn inspect(catalogue: u8, mode: u8, fields: Fields, bytes: &[u8]) -> u8
+    requires { ⌜ (14 ≤ length (now bytes)) × (length (now bytes) ≤ 227) ⌝ }
+    ensures { λ r. ⌜ r ≡ verdict (packetCauses catalogue mode fields (now (bytes .entry))) ⌝ }
+{
+    let end = bytes.len() - 2;
+    let crc = crc::bytes(crc::START, &bytes[..end]);
+    let others = judge(
+        catalogue,
+        mode,
+        fields.command_type,
+        fields.qualifier,
+        fields.address,
+        fields.data,
+        &bytes[HEAD..end],
+    );
+    refusal::cause(
+        refusal::COMMAND_HEADER,
+        header_wrong(bytes),
+        refusal::cause(refusal::CRC, !(crc == word_at(bytes, Bytes(end))), others),
+    )
+}
+
+// A command's fields, and how many further bytes it has.
+pub fn read(catalogue: u8, mode: u8, bytes: &[u8]) -> Command
+    ensures { λ r. ⌜ r ≡ readReply catalogue mode (now (bytes .entry)) ⌝ }
+{
+    let fields = command::fields_in(bytes);
+    let n = bytes.len();
+    let refused = command::first(command::asked_wrong(catalogue, mode), catalogue, Bytes(n));
+    if refused != 0 {
+        return give(refused, fields, 0);
+    }
+    give(inspect(catalogue, mode, fields, bytes), fields, n - LEAST)
+}
+
+// The further bytes of a command, as a part of its bytes; none where `read` refuses, which has the number.
+pub fn further(catalogue: u8, mode: u8, bytes: &[u8]) -> &[u8]
+    ensures { λ r. ⌜ now r ≡ furtherReply catalogue mode (now (bytes .entry)) ⌝ }
+{
+    let reply = read(catalogue, mode, bytes);
+    if reply.refusal != 0 {
+        return &bytes[..0];
+    }
+    let last = bytes.len() - 2;
+    &bytes[HEAD..last]
+}

@@ -1,0 +1,17 @@
+-- `command_writing::settle` meets its contract: by the test of the verdict.
+use borrow.Author.Tests.{eq-eqb, ne-eqb}
+use Rattle.base.specs.Refusal.{answer}
+use Rattle.command_writing.specs.Writing.{settled}
+use Rattle.command_writing.proofs.settle.Statement.{statement}
+use Rattle.command_writing.proofs.settle.Tie as tie
+
+returns : tie.Need-returns
+unfolding settled answer
+returns c = simp (eq-eqb _ _ (c .if1 .taken))
+
+returns-2 : tie.Need-returns-2
+unfolding settled answer
+returns-2 c = simp (ne-eqb _ _ (c .if1 .left))
+
+pub settle-spec : {M : Type 1} → statement M
+settle-spec = tie.close (tie.spec returns returns-2)

@@ -1,4 +1,0 @@
-pub mod Observation
-pub mod Checksums
-pub mod Upsets
-pub mod Examples

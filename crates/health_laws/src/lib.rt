@@ -1,0 +1,1 @@
+// Laws of health packets: what is written is read; no code.

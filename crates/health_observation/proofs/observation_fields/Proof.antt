@@ -1,0 +1,52 @@
+-- `health_observation::observation_fields` meets its contract: the record of the words that were read.
+use mathlib.Core.Path.{refl}
+use native.Mathlib.Omega.{arith}
+use borrow.Author.Needs.{needs}
+use Rattle.health.proofs.Parts.{fills, fills-part}
+use Rattle.health_observation.proofs.Recorded.{words-make-observation}
+use Rattle.health_observation.proofs.observation_fields.Statement.{statement}
+use Rattle.health_observation.proofs.observation_fields.Tie as tie
+
+returns : tie.Need-returns
+returns c =
+    let mode = c .before in
+    let frame = mode .before in
+    let time = frame .before in
+    let crc = time .before in
+    let type-word = crc .before in
+    let bins = type-word .before .before in
+    let others = bins .before .before .before .before in
+    let flags = others .before .before .before in
+    let word = flags .before in
+    let times = word .before in
+    let p = times .before .before .args .packet .now in
+    words-make-observation p
+    (type-word .word-at4 .ensures) (crc .word-at5 .ensures) (time .word-at6 .ensures) (frame .word-at7 .ensures)
+    (times .word-at .ensures) (word .word-at2 .ensures) (flags .word-at3 .ensures) (c .word-at8 .ensures)
+    (mode .mode-of .ensures) (fills-part 8 8 p _ (omega arith) refl (others .put-words .ensures)) (fills 16 p _ (omega arith) (bins .put-words2 .ensures))
+
+pub observation-fields-spec : {M : Type 1} → statement M
+observation-fields-spec =
+    tie.close
+    (tie.spec
+    (λ c κs. search needs)
+    (λ c κs. search needs)
+    (λ c κs. search needs)
+    (λ c. search needs)
+    (λ c. search needs)
+    (λ c. search needs)
+    (λ c. search needs)
+    (λ c κs. search needs)
+    (λ c. search needs)
+    (λ c. search needs)
+    (λ c. search needs)
+    (λ c. search needs)
+    (λ c κs. search needs)
+    (λ c κs. search needs)
+    (λ c. search needs)
+    (λ c κs. search needs)
+    (λ c κs. search needs)
+    (λ c κs. search needs)
+    (λ c κs. search needs)
+    (λ c κs. search needs)
+    returns)

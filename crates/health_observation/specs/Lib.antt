@@ -1,0 +1,2 @@
+pub mod Observation
+pub mod Examples

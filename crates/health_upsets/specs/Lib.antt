@@ -1,0 +1,2 @@
+pub mod Upsets
+pub mod Examples

@@ -1,0 +1,4 @@
+pub mod Spot
+pub mod Flips
+pub mod Places
+pub mod SingleFlip

@@ -1,0 +1,4 @@
+pub mod Folds
+pub mod Words
+pub mod Ones
+pub mod ByRows

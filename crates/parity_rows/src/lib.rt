@@ -1,0 +1,93 @@
+// The parity of data, taken as 64 rows of 64 bits: in one pass by rows of four words, zeros past the end.
+use base::Words;
+use base::number;
+use base::room;
+ghost use mathlib.Core.Path.{_≡_};
+ghost use Prim.Native.Nat.{_<_, _≤_};
+ghost use Rattle.parity_rows.specs.Parity.{number, bitFrom, parityWords, parities, statedParity};
+ghost use Rattle.parity_rows.specs.ByRows.{pack, oneMore};
+
+// A digit for each row and one for each column, the first highest.
+pub struct Sums {
+    pub rows: u64,
+    pub columns: u64,
+}
+
+fn pack_row(a: u16, b: u16, c: u16, d: u16) -> u64
+    ensures { λ r. ⌜ r ≡ pack a b c d ⌝ }
+{
+    ((a as u64) << 48) | ((b as u64) << 32) | ((c as u64) << 16) | (d as u64)
+}
+
+// The 64 bits from a word on as one number, the first bit highest.
+fn bits_from(words: &[u16], at: usize) -> u64
+    requires { ⌜ at ≤ 256 ⌝ }
+    ensures { λ r. ⌜ r ≡ number 64 (bitFrom (now (words .entry)) at) ⌝ }
+{
+    pack_row(
+        room::word_at(words, Words(at)),
+        room::word_at(words, Words(at + 1)),
+        room::word_at(words, Words(at + 2)),
+        room::word_at(words, Words(at + 3)),
+    )
+}
+
+// The sums with row r: its parity at its place, and its bits exclusive-ored into the columns.
+fn add(s: Sums, w: u64, r: usize) -> Sums
+    requires { ⌜ r < 64 ⌝ }
+    ensures { λ t. ⌜ t ≡ oneMore s w r ⌝ }
+{
+    let odd = (u64::count_ones(w) & 1) as u64;
+    Sums {
+        rows: s.rows ^ (odd << (63 - r as u64)),
+        columns: s.columns ^ w,
+    }
+}
+
+// The parity of every row and every column of the data: rows past its end add nothing.
+pub fn parity(data: &[u16]) -> Sums
+    ensures { λ s. ⌜ s ≡ parities (now («data» .entry)) ⌝ }
+{
+    let mut s = Sums {
+        rows: 0,
+        columns: 0,
+    };
+    let mut r = 0;
+    while r < 64 {
+        if data.len() <= 4 * r {
+            return s;
+        }
+        s = add(s, bits_from(data, 4 * r), r);
+        r += 1;
+    }
+    s
+}
+
+// The parity that a unit's first eight words state.
+pub fn stated(unit: &[u16]) -> Sums
+    ensures { λ s. ⌜ s ≡ statedParity (now (unit .entry)) ⌝ }
+{
+    Sums {
+        rows: bits_from(unit, 0),
+        columns: bits_from(unit, 4),
+    }
+}
+
+// The eight parity words of the data.
+pub fn parity_words(data: &[u16]) -> [u16; 8]
+    ensures { λ r. ⌜ r ≡ parityWords (now («data» .entry)) ⌝ }
+{
+    let s = parity(data);
+    let rows = s.rows;
+    let columns = s.columns;
+    [
+        number::low_word(rows >> 48),
+        number::low_word(rows >> 32),
+        number::low_word(rows >> 16),
+        number::low_word(rows),
+        number::low_word(columns >> 48),
+        number::low_word(columns >> 32),
+        number::low_word(columns >> 16),
+        number::low_word(columns),
+    ]
+}
