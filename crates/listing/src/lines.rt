@@ -39,7 +39,9 @@ fn kind(out: Out, page: &mut [u8; PAGE], header: u16) -> Out {
 fn chunk(out: Out, page: &mut [u8; PAGE], entry: Entry) -> Out {
     let word = entry.header;
     let placed = out.number(page, entry.position.0);
-    kind(placed, page, word).number(page, header::camera_of(word) as usize)
+    let begun = kind(placed, page, word);
+    begun
+        .number(page, header::camera_of(word) as usize)
         .text(page, b" ")
         .number(page, header::size_of(word).0)
         .text(page, b"\n")
