@@ -9,12 +9,13 @@ use native.Mathlib.Nat.{add-zero, add-assoc}
 use lib.ListN.{length, getD, drop}
 use lib.Dec.{eqb, ltb}
 use borrow.Author.Tests.{eq-eqb, ne-eqb, ltb-true, ltb-false}
+use Rattle.base.specs.declared.Words.{Words}
 use Rattle.chunk.specs.declared.Entry.{Entry}
 use Rattle.chunk.specs.declared.Found.{Found}
 use Rattle.chunk.specs.declared.Found.the-variants.{Chunk, End}
 use Rattle.chunk.specs.Header.{kind, span, confirmed}
 use Rattle.chunk.specs.Reading.{entry, listed, listedWords, nextFrom}
-use Rattle.chunk.proofs.Steps.{past, Next, stepped, ended, found-hit, hit-within, confirmed-end}
+use Rattle.chunk.proofs.Steps.{Next, stepped, ended, found-here, confirmed-bounds, confirmed-end}
 use Rattle.frame.specs.Shape.{continues, whole, joining, observes, closes}
 
 -- the listed chunks from a place on, where no chunk is in hand
@@ -31,14 +32,14 @@ module _ (sync : ℕ) (ws : List ℕ) (at : ℕ) where
       by-length false l = absurd (false≢true (sym (confirmed-end sync at ws (ltb-false at (length ws) l)) ∙ e))
 
   -- it is the next that is listed
-  pub next-here : confirmed sync (drop at ws) ≡ true → Next sync ws at (entry at (getD ws (suc at) 0))
-  next-here e = stepped sync ws at _ (found-hit sync ws at (confirmed-there e) e)
+  pub next-here : confirmed sync (drop at ws) ≡ true → Next sync ws at (entry at (getD ws (suc at) 0)) (at + span (getD ws (suc at) 0))
+  next-here e = stepped sync ws at _ _ (found-here sync ws at (confirmed-there e) e)
 
   -- where none is confirmed, the next listed chunk begins later
-  pub next-later : confirmed sync (drop at ws) ≡ false → (e : Entry) → nextFrom sync ws at ≡ Found.Chunk e → eqb (e .position .0) at ≡ false
-  next-later z e f =
+  pub next-later : confirmed sync (drop at ws) ≡ false → (e : Entry) (next : Words) → nextFrom sync ws at ≡ Found.Chunk e next → eqb (e .position .0) at ≡ false
+  next-later z e next f =
       ne-eqb (e .position .0) at
-      (λ q. false≢true (sym z ∙ sym (ap (λ (n : ℕ). confirmed sync (drop n ws)) q) ∙ stepped sync ws at e f .confirms))
+      (λ q. false≢true (sym z ∙ sym (ap (λ (n : ℕ). confirmed sync (drop n ws)) q) ∙ stepped sync ws at e next f .confirms))
 
 -- ---- joining
 
@@ -68,9 +69,9 @@ module _ (sync : ℕ) (ws : List ℕ) (end : ℕ) where
     where
       by-found : confirmed sync (drop end ws) ≡ false → (f : Found) → nextFrom sync ws end ≡ f → joining end all (listedFrom sync ws end) ≡ []
       by-found z End f = ap (joining end all) (ended sync ws end f .lists)
-      by-found z (Chunk e) f =
-          let t : all && eqb (e .position .0) end && continues (e .header) ≡ false = rw (next-later sync ws end z e f, and-false all) in
-          ap (joining end all) (stepped sync ws end e f .lists) ∙ joining-one end all e (listedFrom sync ws (past e)) false t
+      by-found z (Chunk e next) f =
+          let t : all && eqb (e .position .0) end && continues (e .header) ≡ false = rw (next-later sync ws end z e next f, and-false all) in
+          ap (joining end all) (stepped sync ws end e next f .lists) ∙ joining-one end all e (listedFrom sync ws (next .0)) false t
 
       by-check : (b : Bool) → confirmed sync (drop end ws) ≡ b → all && (b && continues (getD ws (suc end) 0)) ≡ false
           → joining end all (listedFrom sync ws end) ≡ []
@@ -90,7 +91,7 @@ module _ (sync cam : ℕ) (ws : List ℕ) (end : ℕ) where
     where
       by-found : confirmed sync (drop end ws) ≡ false → (f : Found) → nextFrom sync ws end ≡ f → closes ws end cam (listedFrom sync ws end) ≡ false
       by-found z End f = ap (closes ws end cam) (ended sync ws end f .lists)
-      by-found z (Chunk e) f = rw (stepped sync ws end e f .lists, next-later sync ws end z e f)
+      by-found z (Chunk e next) f = rw (stepped sync ws end e next f .lists, next-later sync ws end z e next f)
 
       by-check : (b : Bool) → confirmed sync (drop end ws) ≡ b
           → closes ws end cam (listedFrom sync ws end) ≡ b && eqb (kind (getD ws (suc end) 0)) 1 && observes (drop (end + 2) ws) cam
@@ -135,6 +136,6 @@ module _ (sync : ℕ) (ws : List ℕ) where
       by-join more true true z false y = rest-stop end true l (joining-stop sync ws end true (rw (z, y)))
       by-join more true true z true y =
           let w : ℕ = getD ws (suc end) 0 in
-          let b = hit-within sync ws end (confirmed-there sync ws end z) z in
+          let b = confirmed-bounds sync ws end (confirmed-there sync ws end z) z in
           subst (Rest end) (sym (joining-step sync ws end w refl z y))
           (rest-step end z w refl (joining (end + span w) (whole w) (listedFrom sync ws (end + span w))) (more (end + span w) (whole w) (omega arith) (b .0)))

@@ -14,7 +14,7 @@ use Rattle.base.proofs.Booleans.{and-left, and-right}
 use Rattle.chunk.specs.declared.Entry.{Entry}
 use Rattle.chunk.specs.Header.{size, span, confirmed}
 use Rattle.chunk.specs.Reading.{entry, reading, listedWords}
-use Rattle.chunk.proofs.Steps.{hit-within}
+use Rattle.chunk.proofs.Steps.{confirmed-bounds}
 use Rattle.parity_units.specs.Split.{dataWords, dataWordsIn}
 use Rattle.frame.specs.declared.shape.Reach.{Reach}
 use Rattle.frame.specs.Shape.{starts, continues, whole, joining, frameOf, frameChunks, frameWords, frameCamera, closes, complete}
@@ -43,8 +43,8 @@ module _ (sync : ℕ) (ws : List ℕ) (s : startsFrame sync ws ≡ true) where
   first-confirmed : confirmed sync ws ≡ true
   first-confirmed = and-left (confirmed sync ws) (starts first) s
 
-  first-within : (0 + span first ≤ length ws) × (1 ≤ size first) × (size first ≤ 8184)
-  first-within = hit-within sync ws 0 (confirmed-there sync ws 0 first-confirmed) first-confirmed
+  first-within : (0 + span first ≤ length ws) × (9 ≤ size first) × (size first ≤ 8184)
+  first-within = confirmed-bounds sync ws 0 (confirmed-there sync ws 0 first-confirmed) first-confirmed
 
   -- two words at the least
   pub longer-than-header : 2 < length ws
@@ -80,7 +80,7 @@ module _ (sync : ℕ) (ws : List ℕ) (s : startsFrame sync ws ≡ true) where
     pub joining-fits : eqb (n % 264) 0 && joinsFrame sync (drop end ws) ≡ true → (end + 1 < length ws) × (end + 2 + size (getD ws (end + 1) 0) ≤ length ws)
     joining-fits j =
         let c : confirmed sync (drop end ws) ≡ true = and-left (confirmed sync (drop end ws)) _ (and-right (eqb (n % 264) 0) _ j) in
-        let b = hit-within sync ws end (confirmed-there sync ws end c) c in
+        let b = confirmed-bounds sync ws end (confirmed-there sync ws end c) c in
         let q : getD ws (suc end) 0 ≡ getD ws (end + 1) 0 = ap (λ (x : ℕ). getD ws x 0) (sym (add-one end)) in
         (omega (arith, b .0), omega (arith, b .0, ap size q))
 
@@ -96,7 +96,7 @@ module _ (sync : ℕ) (ws : List ℕ) (s : startsFrame sync ws ≡ true) where
         let d : getD (drop end ws) 1 0 ≡ w = getD-drop end ws 1 0 ∙ sym q in
         let y : continues w ≡ true = ap (λ (x : ℕ). continues x) (sym d) ∙ and-right (confirmed sync (drop end ws)) _ i in
         let h : w ≡ getD ws (suc end) 0 = q ∙ ap (λ (x : ℕ). getD ws x 0) (add-one end) in
-        let b : end + span w ≤ length ws = rw h (hit-within sync ws end (confirmed-there sync ws end c) c .0) in
+        let b : end + span w ≤ length ws = rw h (confirmed-bounds sync ws end (confirmed-there sync ws end c) c .0) in
         let r : List Entry = ahead sync ws (size w) (end + span w) in
         let e : ahead sync ws n end ≡ entry end w ∷ r =
         ap (λ (x : Bool). joining end x (listedFrom sync ws end)) f ∙ joining-step sync ws end w h c y in

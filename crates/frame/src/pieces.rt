@@ -31,16 +31,15 @@ pub fn next(words: &[u16], sync: u16, from: Words) -> Piece
     loop {
         let found = search::next(words, sync, Words(at));
         match found {
-            Found::Chunk(entry) => {
+            Found::Chunk(entry, next) => {
                 let begins = entry.position.0;
-                let end = begins + header::HEADER + header::size_of(entry.header).0;
                 if header::kind_of(entry.header) == 0 {
                     if crate::starts(entry.header) {
                         return frame_there(words, sync, begins);
                     }
-                    return Piece::Stray(Words(begins), Words(end));
+                    return Piece::Stray(Words(begins), next);
                 }
-                at = end;
+                at = next.0;
             }
             Found::End => {
                 return Piece::End;

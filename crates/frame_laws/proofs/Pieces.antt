@@ -142,7 +142,7 @@ module _ (sync : ℕ) (ws : List ℕ) where
   moves p q e (Stray a r) s = e ∙ s
   moves p q e Nothing s = e ∙ s
 
-  module _ (p : ℕ) (e : Entry) (n : Next sync ws p e) where
+  module _ (p : ℕ) (e : Entry) (n : Next sync ws p e (past e)) where
     abbrev at : ℕ
     at = e .position .0
 
@@ -173,7 +173,7 @@ module _ (sync : ℕ) (ws : List ℕ) where
         let js : List Entry = joining (past e) (whole h) (listedFrom sync ws (past e)) in
         let r : Rest sync ws (past e) js = rest sync ws (length ws) (past e) (whole h) (omega arith) (n .within) in
         let g : at + frameWords sync (drop at ws) ≡ past e + listedWords js =
-        rw q at (frame-end at (frame-starts sync ws p e n s)) in
+        rw q at (frame-end at (frame-starts sync ws p e (past e) n s)) in
         begins false true (no-continuation s) s
         ∙ ap (λ (l : List Entry). e ∷ l) (passed (past e) (whole h) (listedFrom sync ws (past e)) ∙ ap (framesAndStrays 0 false) (r .on))
         ∙ ap (λ (m : ℕ). e ∷ piecesFrom sync ws m) (sym g)
@@ -189,22 +189,24 @@ module _ (sync : ℕ) (ws : List ℕ) where
   at-end p f = subst (Says sync ws p) (sym (no-piece sync ws p f)) (ap (framesAndStrays 0 false) (ended sync ws p f .lists))
 
   -- a chunk was found: the piece is there, or the search goes on past a health chunk
-  at-chunk : (p : ℕ) (e : Entry) (n : Next sync ws p e) → Says sync ws (past e) (nextPiece sync ws (past e)) → Says sync ws p (nextPiece sync ws p)
+  at-chunk : (p : ℕ) (e : Entry) (n : Next sync ws p e (past e)) → Says sync ws (past e) (nextPiece sync ws (past e)) → Says sync ws p (nextPiece sync ws p)
   at-chunk p e n more = by-kind (eqb (kind (e .header)) 0) refl (starts (e .header)) refl
     where
       by-kind : (k : Bool) → eqb (kind (e .header)) 0 ≡ k → (s : Bool) → starts (e .header) ≡ s → Says sync ws p (nextPiece sync ws p)
       by-kind false k s y =
-          subst (Says sync ws p) (sym (health-passed sync ws p e n (eqb-false (kind (e .header)) 0 k)))
+          subst (Says sync ws p) (sym (health-passed sync ws p e (past e) n (eqb-false (kind (e .header)) 0 k)))
           (moves p (past e) (at-health p e n k) (nextPiece sync ws (past e)) more)
       by-kind true k true y =
-          subst (Says sync ws p) (sym (frame-next sync ws p e n (eqb-true (kind (e .header)) 0 k) y)) (at-frame p e n y)
+          subst (Says sync ws p) (sym (frame-next sync ws p e (past e) n (eqb-true (kind (e .header)) 0 k) y)) (at-frame p e n y)
       by-kind true k false y =
-          subst (Says sync ws p) (sym (stray-next sync ws p e n (eqb-true (kind (e .header)) 0 k) y)) (at-stray p e n k y)
+          subst (Says sync ws p) (sym (stray-next sync ws p e (past e) n (eqb-true (kind (e .header)) 0 k) y)) (at-stray p e n k y)
 
   by-found : (k p : ℕ) → length ws ≤ p + suc k → ((q : ℕ) → length ws ≤ q + k → Says sync ws q (nextPiece sync ws q))
       → (f : Found) → nextFrom sync ws p ≡ f → Says sync ws p (nextPiece sync ws p)
   by-found k p h more End f = at-end p f
-  by-found k p h more (Chunk e) f = let n = stepped sync ws p e f in at-chunk p e n (more (past e) (omega (arith, n .ahead)))
+  by-found k p h more (Chunk e next) f =
+      let s = stepped sync ws p e next f in
+      at-chunk p e (subst (Next sync ws p e) (s .end) s) (more (past e) (omega (arith, s .ahead)))
 
   says-within : (k p : ℕ) → length ws ≤ p + k → Says sync ws p (nextPiece sync ws p)
   says-within zero p h = at-end p (found-end sync ws p (omega arith))

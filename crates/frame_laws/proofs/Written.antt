@@ -22,7 +22,7 @@ use Rattle.chunk_writing.specs.Writing.{headerWord}
 use Rattle.chunk_laws.specs.Stretch.{Laid, words, offset, entries, whole as wholeChunk, wholeRow}
 use Rattle.chunk_laws.specs.Written.{accepted, written}
 use Rattle.chunk_laws.proofs.Tests.{and-both}
-use Rattle.chunk_laws.proofs.Rows.{long, row-first, row-rest, row-confirmed, row-drop, lists-row, row-at, row-listed, payload-there}
+use Rattle.chunk_laws.proofs.Rows.{whole-length, row-first, row-rest, row-confirmed, row-drop, lists-row, row-at, row-listed, payload-there}
 use Rattle.chunk_laws.proofs.Written.{kind-written, camera-written, size-written, written-whole}
 use Rattle.parity_laws.specs.Units.{Hold}
 use Rattle.health.specs.Packet.{permittedType}
@@ -100,7 +100,7 @@ row-words : (sync at : ℕ) (cs : List Laid) → wholeRow cs ≡ true → listed
 unfolding listedWords
 row-words sync at [] k = refl
 row-words sync at (c ∷ cs) k =
-    let n : length (c .payload) ≡ size (c .header) = long c (row-first c cs k) in
+    let n : length (c .payload) ≡ size (c .header) = whole-length c (row-first c cs k) in
     let m = row-words sync (at + span (c .header)) cs (row-rest c cs k) in
     omega (arith, length-append (c .payload) (words sync cs))
 
@@ -142,7 +142,7 @@ frame-units sync at cam v (us ∷ uss) rest w e =
     let c : Laid = written 0 cam (joined us) in
     let h : ℕ = c .header in
     let k : wholeChunk c ≡ true = written-whole 0 cam (joined us) (taken cam us uss w) in
-    let n : size h ≡ length (joined us) = sym (long c k) in
+    let n : size h ≡ length (joined us) = sym (whole-length c k) in
     let p : payloadOf v (entry at h) ≡ joined us =
     ap (take (size h)) (sym (drop-drop 2 at v) ∙ ap (drop 2) e) ∙ payload-there sync c (frameRow 0 uss ++ rest) k in
     let o : drop (at + span h) v ≡ words sync (frameRow 0 uss ++ rest) =

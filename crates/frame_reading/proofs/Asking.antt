@@ -17,7 +17,7 @@ use Rattle.base.proofs.Refused.{numbered, spared, answer-no, answer-yes, verdic
 use Rattle.base.specs.declared.Words.{Words}
 use Rattle.chunk.specs.Header.{kind, camera, confirmed}
 use Rattle.chunk.specs.Reading.{entry, leftAt, listedAt}
-use Rattle.chunk.proofs.Steps.{hit-within}
+use Rattle.chunk.proofs.Steps.{confirmed-bounds}
 use Rattle.parity_units.specs.Split.{anyDamaged, givenData, dataWords}
 use Rattle.frame.specs.declared.Frame.{Frame}
 use Rattle.frame.specs.declared.Piece.{Piece}
@@ -40,7 +40,7 @@ first-piece : (sync : ℕ) (vs : List ℕ) → startsFrame sync vs ≡ true → 
 first-piece sync vs s =
     let h : ℕ = getD vs 1 0 in
     let t : starts h ≡ true = and-right (confirmed sync vs) (starts h) s in
-    frame-next sync vs 0 (entry 0 h) (next-here sync vs 0 (and-left (confirmed sync vs) (starts h) s))
+    frame-next sync vs 0 (entry 0 h) _ (next-here sync vs 0 (and-left (confirmed sync vs) (starts h) s))
     (eqb-true (kind h) 0 (and-left (eqb (kind h) 0) (leb 1 (camera h)) t)) t
 
 module _ (sync p : ℕ) (ws : List ℕ) where
@@ -52,7 +52,7 @@ module _ (sync p : ℕ) (ws : List ℕ) where
   pub listed-inside : listedAt sync ws p ≡ true → p + 1 < length ws
   listed-inside e =
       let c = listed-confirmed e in
-      omega (arith, hit-within sync ws p (confirmed-there sync ws p c) c .0)
+      omega (arith, confirmed-bounds sync ws p (confirmed-there sync ws p c) c .0)
 
   pub too-long : tooLong ws ≡ true → wrongLength ≡ verdict (atCauses sync ws p)
   too-long h = simp h

@@ -16,7 +16,7 @@ use Rattle.base.proofs.Booleans.{and-left, and-right, or-cases}
 use Rattle.chunk.specs.declared.Entry.{Entry}
 use Rattle.chunk.specs.Header.{size, camera, kind, span, imageSize, confirmed}
 use Rattle.chunk.specs.Reading.{entry, listedWords}
-use Rattle.chunk.proofs.Steps.{hit-within, confirmed-end}
+use Rattle.chunk.proofs.Steps.{confirmed-bounds, confirmed-end}
 use Rattle.parity_units.specs.Split.{unitsIn, anyDamaged, joinedData, givenData, dataWords}
 use Rattle.parity_units.proofs.Split.{Fair, fair-append, units-fair, given-all}
 use Rattle.frame.specs.Shape.{starts, continues, whole, joining, frameChunks, frameWords}
@@ -42,7 +42,7 @@ module _ (sync : ℕ) (ws : List ℕ) where
       let d : getD (drop at ws) 1 0 ≡ getD ws (suc at) 0 = getD-drop at ws 1 0 ∙ ap (λ (n : ℕ). getD ws n 0) (add-one at) in
       record {
         is = refl;
-        within = hit-within sync ws at (confirmed-there sync ws at c) c .0;
+        within = confirmed-bounds sync ws at (confirmed-there sync ws at c) c .0;
         image = rw d at (image-size sync (drop at ws) c (rw d i));
       }
 

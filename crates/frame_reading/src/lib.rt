@@ -5,7 +5,6 @@ mod picture;
 use base::Words;
 use base::limit;
 use base::refusal;
-use chunk_reading::place;
 use frame::Frame;
 use frame::Piece;
 use frame::pieces;
@@ -33,7 +32,7 @@ fn find(recording: &[u16], sync: u16, place: Words) -> u8
     if limit::too_long(recording) {
         return refusal::LENGTH;
     }
-    if !place::is_listed(recording, sync, place) {
+    if !chunk_reading::place::is_listed(recording, sync, place) {
         return refusal::NOTHING_THERE;
     }
     let begins = place.0;

@@ -11,7 +11,7 @@ use Rattle.chunk.specs.declared.Entry.{Entry}
 use Rattle.chunk.specs.declared.Found.{Found}
 use Rattle.chunk.specs.Header.{kind}
 use Rattle.chunk.specs.Reading.{nextFrom, listedWords}
-use Rattle.chunk.proofs.Steps.{Next, stepped, past, found-end}
+use Rattle.chunk.proofs.Steps.{Next, stepped, found-end}
 use Rattle.frame.specs.declared.Piece.{Piece}
 use Rattle.frame.specs.Shape.{starts, frameWords}
 use Rattle.frame.specs.Walk.{startsFrame}
@@ -34,12 +34,12 @@ sooner ws p q h (Piece.Stray at on) a = (omega arith, a .1)
 sooner ws p q h Piece.End a = tt
 
 -- a frame has words, and ends within the recording
-frame-on : (sync : ℕ) (ws : List ℕ) (p : ℕ) (e : Entry) → Next sync ws p e → startsFrame sync (drop (e .position .0) ws) ≡ true
+frame-on : (sync : ℕ) (ws : List ℕ) (p : ℕ) (e : Entry) (next : ℕ) → Next sync ws p e next → startsFrame sync (drop (e .position .0) ws) ≡ true
     → On ws p (e .position .0 + frameWords sync (drop (e .position .0) ws))
 unfolding listedWords
-frame-on sync ws p e n s =
+frame-on sync ws p e next n s =
     let q : ℕ = e .position .0 in
-    (omega (arith, n .ahead, ap listedWords (first-and-ahead sync (drop q ws) s)), omega (arith, n .within, frame-ends-inside sync (drop q ws) s, length-drop q ws))
+    (omega (arith, n .ahead, ap listedWords (first-and-ahead sync (drop q ws) s)), omega (arith, n .within, n .end, frame-ends-inside sync (drop q ws) s, length-drop q ws))
 
 module _ (sync : ℕ) (ws : List ℕ) where
   ahead-from : (k p : ℕ) → length ws ≤ p + k → Ahead ws p (nextPiece sync ws p)
@@ -48,20 +48,20 @@ module _ (sync : ℕ) (ws : List ℕ) where
     where
       by-found : ((q : ℕ) → length ws ≤ q + k → Ahead ws q (nextPiece sync ws q)) → (f : Found) → nextFrom sync ws p ≡ f → Ahead ws p (nextPiece sync ws p)
       by-found more Found.End f = subst (Ahead ws p) (sym (no-piece sync ws p f)) tt
-      by-found more (Found.Chunk e) f = by-kind (eqb (kind (e .header)) 0) refl
+      by-found more (Found.Chunk e next) f = by-kind (eqb (kind (e .header)) 0) refl
         where
-          n : Next sync ws p e
-          n = stepped sync ws p e f
+          n : Next sync ws p e (next .0)
+          n = stepped sync ws p e next f
 
           by-start : kind (e .header) ≡ 0 → (b : Bool) → starts (e .header) ≡ b → Ahead ws p (nextPiece sync ws p)
-          by-start z true s = subst (Ahead ws p) (sym (frame-next sync ws p e n z s)) (frame-on sync ws p e n (frame-starts sync ws p e n s))
-          by-start z false s = subst (Ahead ws p) (sym (stray-next sync ws p e n z s)) (omega (arith, n .ahead), n .within)
+          by-start z true s = subst (Ahead ws p) (sym (frame-next sync ws p e (next .0) n z s)) (frame-on sync ws p e (next .0) n (frame-starts sync ws p e (next .0) n s))
+          by-start z false s = subst (Ahead ws p) (sym (stray-next sync ws p e (next .0) n z s)) (omega (arith, n .ahead), omega (arith, n .within, n .end))
 
           by-kind : (b : Bool) → eqb (kind (e .header)) 0 ≡ b → Ahead ws p (nextPiece sync ws p)
           by-kind true z = by-start (eqb-true (kind (e .header)) 0 z) (starts (e .header)) refl
           by-kind false z =
-              subst (Ahead ws p) (sym (health-passed sync ws p e n (eqb-false (kind (e .header)) 0 z)))
-              (sooner ws p (past e) (omega (arith, n .ahead)) (nextPiece sync ws (past e)) (more (past e) (omega (arith, n .ahead))))
+              subst (Ahead ws p) (sym (health-passed sync ws p e (next .0) n (eqb-false (kind (e .header)) 0 z)))
+              (sooner ws p (next .0) (omega (arith, n .ahead, n .end)) (nextPiece sync ws (next .0)) (more (next .0) (omega (arith, n .ahead, n .end))))
 
   pub ahead : (p : ℕ) (x : Piece) → x ≡ nextPiece sync ws p → Ahead ws p x
   ahead p x e = subst (Ahead ws p) (sym e) (ahead-from (length ws) p (omega arith))

@@ -12,7 +12,7 @@ use Rattle.chunk.specs.declared.Entry.{Entry}
 use Rattle.chunk.specs.declared.Found.{Found}
 use Rattle.chunk.specs.Header.{kind}
 use Rattle.chunk.specs.Reading.{nextFrom}
-use Rattle.chunk.proofs.Steps.{past, Next, ended}
+use Rattle.chunk.proofs.Steps.{Next, ended}
 use Rattle.frame.specs.declared.Piece.{Piece}
 use Rattle.frame.specs.Shape.{starts}
 use Rattle.frame.specs.Walk.{startsFrame}
@@ -33,13 +33,13 @@ module _ (sync : ℕ) (ws : List ℕ) (p : ℕ) where
   unfolding firstPiece
   no-piece f = ap (firstPiece sync ws) (ended sync ws p f .lists)
 
-  module _ (e : Entry) (n : Next sync ws p e) where
+  module _ (e : Entry) (q : ℕ) (n : Next sync ws p e q) where
     next-by-kind : (b : Bool) → eqb (kind (e .header)) 0 ≡ b
-        → nextPiece sync ws p ≡ cond b (cond (starts (e .header)) (frameThere sync ws (e .position .0)) (strayThere e)) (nextPiece sync ws (past e))
-    next-by-kind b q = ap (firstPiece sync ws) (n .lists) ∙ first-by-kind sync ws e (listedFrom sync ws (past e)) b q
+        → nextPiece sync ws p ≡ cond b (cond (starts (e .header)) (frameThere sync ws (e .position .0)) (strayThere e)) (nextPiece sync ws q)
+    next-by-kind b t = ap (firstPiece sync ws) (n .lists) ∙ first-by-kind sync ws e (listedFrom sync ws q) b t
 
     -- a health chunk is passed
-    pub health-passed : (kind (e .header) ≡ 0 → ⊥) → nextPiece sync ws p ≡ nextPiece sync ws (past e)
+    pub health-passed : (kind (e .header) ≡ 0 → ⊥) → nextPiece sync ws p ≡ nextPiece sync ws q
     health-passed h = next-by-kind false (ne-eqb (kind (e .header)) 0 h)
 
     module _ (h : kind (e .header) ≡ 0) where

@@ -32,52 +32,43 @@ module _ (c : tie.After-known-told Inv-loop μ-loop) where
   abbrev e : Entry
   e = c .before .found .given .0 .0
 
-  step : Next (a .args .sync) (a .args .words .now) (l .loop .at) e
+  -- and the place past it
+  abbrev q : ℕ
+  q = c .before .found .given .0 .1 .0 .0
+
+  step : Next (a .args .sync) (a .args .words .now) (l .loop .at) e q
   step =
-      stepped (a .args .sync) (a .args .words .now) (l .loop .at) e
+      stepped (a .args .sync) (a .args .words .now) (l .loop .at) e _
       (sym (c .before .before .before .next .ensures) ∙ c .before .found .given .1)
-
--- the code's sum is the place past it
-ends : (c : tie.After-size-of Inv-loop μ-loop) → e (c .before) .position .0 + 2 + c .size-of .result .0 ≡ past (e (c .before))
-ends c = omega (arith, c .size-of .ensures)
-
-add-end : tie.Need-add-end Inv-loop μ-loop
-add-end c = record { fits = omega (arith, step c .within) }
-
-add-end-2 : tie.Need-add-end-2 Inv-loop μ-loop
-add-end-2 c = record { fits = omega (arith, step (c .before .before) .within, ends (c .before)) }
 
 frame-there-requires : tie.Need-frame-there-requires Inv-loop μ-loop
 frame-there-requires c κs =
-    let k = c .before .before .before .before .before .before in
-    frame-starts (a k .args .sync) (a k .args .words .now) (l k .loop .at) (e k) (step k) (sym (c .before .starts .ensures) ∙ c .if2 .taken)
+    let k = c .before .before .before .before in
+    frame-starts (a k .args .sync) (a k .args .words .now) (l k .loop .at) (e k) (q k) (step k) (sym (c .before .starts .ensures) ∙ c .if2 .taken)
 
 returns : tie.Need-returns Inv-loop μ-loop
 returns c =
     let i = c .before .before .before in
-    let k = i .before .before .before .before in
+    let k = i .before .before in
     c .frame-there .ensures
-    ∙ sym (frame-next (a k .args .sync) (a k .args .words .now) (l k .loop .at) (e k) (step k) (sym (i .before .kind-of .ensures) ∙ i .if1 .taken) (sym (c .before .before .starts .ensures) ∙ c .before .if2 .taken))
+    ∙ sym (frame-next (a k .args .sync) (a k .args .words .now) (l k .loop .at) (e k) (q k) (step k) (sym (i .before .kind-of .ensures) ∙ i .if1 .taken) (sym (c .before .before .starts .ensures) ∙ c .before .if2 .taken))
     ∙ l k .loop .inv
 
 returns-2 : tie.Need-returns-2 Inv-loop μ-loop
 returns-2 c =
     let i = c .before .before in
-    let k = i .before .before .before .before in
-    ap (λ (n : ℕ). Piece.Stray (e k .position) (record { 0 = n })) (ends (i .before .before .before))
-    ∙ sym (stray-next (a k .args .sync) (a k .args .words .now) (l k .loop .at) (e k) (step k) (sym (i .before .kind-of .ensures) ∙ i .if1 .taken) (sym (c .before .starts .ensures) ∙ c .if2 .left))
+    let k = i .before .before in
+    ap (λ (n : ℕ). Piece.Stray (e k .position) (record { 0 = n })) (step k .end)
+    ∙ sym (stray-next (a k .args .sync) (a k .args .words .now) (l k .loop .at) (e k) (q k) (step k) (sym (i .before .kind-of .ensures) ∙ i .if1 .taken) (sym (c .before .starts .ensures) ∙ c .if2 .left))
     ∙ l k .loop .inv
 
 loop-less : tie.Need-loop-less Inv-loop μ-loop
-loop-less c =
-    let k = c .before .before .before .before in
-    omega (arith, ends (c .before .before .before), step k .ahead, step k .within)
+loop-less c = let k = c .before .before in omega (arith, step k .end, step k .ahead, step k .within)
 
 loop-again : tie.Need-loop-again Inv-loop μ-loop
 loop-again c =
-    let k = c .before .before .before .before in
-    ap (λ (n : ℕ). nextPiece (a k .args .sync) (a k .args .words .now) n) (ends (c .before .before .before))
-    ∙ sym (health-passed (a k .args .sync) (a k .args .words .now) (l k .loop .at) (e k) (step k) (λ z. c .if1 .left (c .before .kind-of .ensures ∙ z)))
+    let k = c .before .before in
+    sym (health-passed (a k .args .sync) (a k .args .words .now) (l k .loop .at) (e k) (q k) (step k) (λ z. c .if1 .left (c .before .kind-of .ensures ∙ z)))
     ∙ l k .loop .inv
 
 returns-3 : tie.Need-returns-3 Inv-loop μ-loop
@@ -95,9 +86,6 @@ next-spec =
     loop-holds
     (λ c κs. search needs)
     (λ c. search needs)
-    add-end
-    (λ c κs. search needs)
-    add-end-2
     (λ c κs. search needs)
     (λ c κs. search needs)
     frame-there-requires
