@@ -53,11 +53,11 @@ pub fn chunks(out: Out, page: &mut [u8; PAGE], words: &[u16], sync: u16) -> Out 
     let mut at: usize = 0;
     loop {
         let found = search::next(words, sync, Words(at));
-        let Found::Chunk(entry) = found else {
+        let Found::Chunk(entry, next) = found else {
             return said;
         };
         said = chunk(said, page, entry);
-        at = entry.position.0 + header::HEADER + header::size_of(entry.header).0;
+        at = next.0;
     }
 }
 

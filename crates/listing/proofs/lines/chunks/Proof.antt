@@ -1,10 +1,10 @@
 -- `listing::lines::chunks` ends: each turn goes on past a chunk.
-use mathlib.Core.Path.{_≡_, sym, _∙_}
-use Prim.Native.Nat.{_+_, _-_}
+use mathlib.Core.Path.{sym, _∙_}
+use Prim.Native.Nat.{_-_}
 use native.Mathlib.Omega.{arith}
 use lib.ListN.{length}
 use borrow.Author.Needs.{needs}
-use Rattle.chunk.proofs.Steps.{Next, stepped, past}
+use Rattle.chunk.proofs.Steps.{Next, stepped}
 use Rattle.listing.proofs.lines.chunks.Statement.{statement}
 use Rattle.listing.proofs.lines.chunks.Tie as tie
 
@@ -21,25 +21,15 @@ loop-holds c = tt
 step : (c : tie.After-known-told Inv-loop μ-loop)
     → (let l = c .before .before .before .before in
     let a = l .before .before .args in
-    Next (a .sync) (a .words .now) (l .loop .at) (c .before .found .given .0 .0))
+    Next (a .sync) (a .words .now) (l .loop .at) (c .before .found .given .0 .0) (c .before .found .given .0 .1 .0 .0))
 step c =
     let l = c .before .before .before .before in
     let a = l .before .before .args in
-    stepped (a .sync) (a .words .now) (l .loop .at) (c .before .found .given .0 .0) (sym (c .before .before .before .next .ensures) ∙ c .before .found .given .1)
-
--- the code's sum is the place past it
-ends : (c : tie.After-size-of Inv-loop μ-loop)
-    → (let e = c .before .before .before .before .before .found .given .0 .0 in e .position .0 + 2 + c .size-of .result .0 ≡ past e)
-ends c = omega (arith, c .size-of .ensures)
-
-add-at : tie.Need-add-at Inv-loop μ-loop
-add-at c = record { fits = omega (arith, step (c .before .before .before) .within) }
-
-add-at-2 : tie.Need-add-at-2 Inv-loop μ-loop
-add-at-2 c = record { fits = omega (arith, step (c .before .before .before .before .before) .within, ends (c .before)) }
+    stepped (a .sync) (a .words .now) (l .loop .at) (c .before .found .given .0 .0) (c .before .found .given .0 .1 .0)
+    (sym (c .before .before .before .next .ensures) ∙ c .before .found .given .1)
 
 loop-less : tie.Need-loop-less Inv-loop μ-loop
-loop-less c = let k = c .before .before .before .before .before in omega (arith, ends (c .before), step k .ahead, step k .within)
+loop-less c = let k = c .before .before in omega (arith, step k .end, step k .ahead, step k .within)
 
 loop-again : tie.Need-loop-again Inv-loop μ-loop
 loop-again c = tt
@@ -56,8 +46,5 @@ chunks-spec =
     (λ c. search needs)
     (λ c. search needs)
     (λ c κs. search needs)
-    add-at
-    (λ c κs. search needs)
-    add-at-2
     loop-less
     loop-again)
