@@ -153,8 +153,8 @@ index-injective (d ∷ es) [] e = absurd (omega (arith, ap length e))
 index-injective (d ∷ es) (f ∷ fs) e =
     ap₂ (λ (x : Entry) (l : List Entry). x ∷ l) (ap₂ entry (ap (λ (l : List ℕ). getD l 0 0) e) (ap (λ (l : List ℕ). getD l 1 0) e)) (index-injective es fs (ap (drop 2) e))
 
-pub old-index-fresh-refused : OldIndexIsRefused
-old-index-fresh-refused sync ws other same h differ =
+pub old-index-is-refused : OldIndexIsRefused
+old-index-is-refused sync ws other same h differ =
     let es : List Entry = reading sync ws in
     let r : List ℕ = other ++ tailWords (length ws) es in
     let b = reel-within sync ws r h (ap (λ (m : ℕ). length (other ++ tailWords m es)) (sym same) ∙ tailed-length other es ∙ ap (λ (m : ℕ). reelWords m (length es)) same) in
