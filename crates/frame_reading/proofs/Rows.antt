@@ -22,7 +22,7 @@ use Rattle.parity_units.proofs.Split.{Fair, fair-append, units-fair, given-all}
 use Rattle.frame.specs.Shape.{starts, continues, whole, joining, frameChunks, frameWords}
 use Rattle.frame.specs.Picture.{payloadOf, chunkUnits, unitsOf, frameUnits, frameData}
 use Rattle.frame.specs.Walk.{startsFrame}
-use Rattle.frame.proofs.Joining.{listedFrom, confirmed-there, joining-step, joining-stop}
+use Rattle.frame.proofs.Joining.{listedFrom, confirmed-inside, joining-step, joining-stop}
 use Rattle.frame.proofs.Chunks.{image-size, payload-length}
 use Rattle.frame.proofs.Walking.{first-and-ahead, frame-ends-inside}
 use Rattle.frame_reading.specs.Along.{wordsAlong, unitsAlong}
@@ -42,7 +42,7 @@ module _ (sync : ℕ) (ws : List ℕ) where
       let d : getD (drop at ws) 1 0 ≡ getD ws (suc at) 0 = getD-drop at ws 1 0 ∙ ap (λ (n : ℕ). getD ws n 0) (add-one at) in
       record {
         entry-here = refl;
-        within = confirmed-bounds sync ws at (confirmed-there sync ws at c) c .0;
+        within = confirmed-bounds sync ws at (confirmed-inside sync ws at c) c .0;
         image = rw d at (image-size sync (drop at ws) c (rw d i));
       }
 
