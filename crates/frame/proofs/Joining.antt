@@ -24,8 +24,8 @@ listedFrom sync ws at = listed sync at 0 (drop at ws)
 
 module _ (sync : ℕ) (ws : List ℕ) (at : ℕ) where
   -- a confirmed chunk lies within the words
-  pub confirmed-there : confirmed sync (drop at ws) ≡ true → at < length ws
-  confirmed-there e = by-length (ltb at (length ws)) refl
+  pub confirmed-inside : confirmed sync (drop at ws) ≡ true → at < length ws
+  confirmed-inside e = by-length (ltb at (length ws)) refl
     where
       by-length : (b : Bool) → ltb at (length ws) ≡ b → at < length ws
       by-length true l = ltb-true at (length ws) l
@@ -33,7 +33,7 @@ module _ (sync : ℕ) (ws : List ℕ) (at : ℕ) where
 
   -- it is the next that is listed
   pub next-here : confirmed sync (drop at ws) ≡ true → Next sync ws at (entry at (getD ws (suc at) 0)) (at + span (getD ws (suc at) 0))
-  next-here e = stepped sync ws at _ _ (found-here sync ws at (confirmed-there e) e)
+  next-here e = stepped sync ws at _ _ (found-here sync ws at (confirmed-inside e) e)
 
   -- where none is confirmed, the next listed chunk begins later
   pub next-later : confirmed sync (drop at ws) ≡ false → (e : Entry) (next : Words) → nextFrom sync ws at ≡ Found.Chunk e next → eqb (e .position .0) at ≡ false
@@ -84,10 +84,10 @@ module _ (sync : ℕ) (ws : List ℕ) (end : ℕ) where
 -- ---- the end
 
 module _ (sync cam : ℕ) (ws : List ℕ) (end : ℕ) where
-  pub closes-at : closes ws end cam (listedFrom sync ws end)
+  pub closes-at-end : closes ws end cam (listedFrom sync ws end)
       ≡ confirmed sync (drop end ws) && eqb (kind (getD ws (suc end) 0)) 1 && observes (drop (end + 2) ws) cam
   unfolding closes
-  closes-at = by-check (confirmed sync (drop end ws)) refl
+  closes-at-end = by-check (confirmed sync (drop end ws)) refl
     where
       by-found : confirmed sync (drop end ws) ≡ false → (f : Found) → nextFrom sync ws end ≡ f → closes ws end cam (listedFrom sync ws end) ≡ false
       by-found z End f = ap (closes ws end cam) (ended sync ws end f .lists)
@@ -102,40 +102,40 @@ module _ (sync cam : ℕ) (ws : List ℕ) (end : ℕ) where
 
 module _ (sync : ℕ) (ws : List ℕ) where
   -- After the chunks that join, the list goes on at their end; they lie within the words.
-  pub record Rest (end : ℕ) (joined : List Entry) : Type 0 where
-    pub on : drop (length joined) (listedFrom sync ws end) ≡ listedFrom sync ws (end + listedWords joined)
+  pub record AfterJoined (end : ℕ) (joined : List Entry) : Type 0 where
+    pub goes-on : drop (length joined) (listedFrom sync ws end) ≡ listedFrom sync ws (end + listedWords joined)
     pub within : end + listedWords joined ≤ length ws
 
-  rest-stop : (end : ℕ) (all : Bool) → end ≤ length ws → joining end all (listedFrom sync ws end) ≡ [] → Rest end (joining end all (listedFrom sync ws end))
+  after-none-joined : (end : ℕ) (all : Bool) → end ≤ length ws → joining end all (listedFrom sync ws end) ≡ [] → AfterJoined end (joining end all (listedFrom sync ws end))
   unfolding listedWords
-  rest-stop end all l e =
-      rw e (record { on = ap (listedFrom sync ws) (sym (add-zero end)); within = omega arith })
+  after-none-joined end all l e =
+      rw e (record { goes-on = ap (listedFrom sync ws) (sym (add-zero end)); within = omega arith })
 
-  rest-step : (end : ℕ) → confirmed sync (drop end ws) ≡ true → (h : ℕ) → h ≡ getD ws (suc end) 0 → (js : List Entry) → Rest (end + span h) js
-      → Rest end (entry end h ∷ js)
+  after-one-joined : (end : ℕ) → confirmed sync (drop end ws) ≡ true → (h : ℕ) → h ≡ getD ws (suc end) 0 → (js : List Entry) → AfterJoined (end + span h) js
+      → AfterJoined end (entry end h ∷ js)
   unfolding listedWords
-  rest-step end e h q js r =
+  after-one-joined end e h q js r =
       let n : end + span h + listedWords js ≡ end + (span h + listedWords js) = add-assoc end (span h) (listedWords js) in
       record {
-        on =
+        goes-on =
             ap (drop (suc (length js))) (next-here sync ws end e .lists ∙ ap (λ (x : ℕ). entry end x ∷ listedFrom sync ws (end + span x)) (sym q))
-            ∙ r .on ∙ ap (listedFrom sync ws) n;
+            ∙ r .goes-on ∙ ap (listedFrom sync ws) n;
         within = omega (arith, r .within, n);
       }
 
-  pub rest : (k end : ℕ) (all : Bool) → length ws ≤ end + k → end ≤ length ws → Rest end (joining end all (listedFrom sync ws end))
-  rest zero end all h l =
-      rest-stop end all l (joining-stop sync ws end all (rw (confirmed-end sync end ws (omega arith)) (and-false all)))
-  rest (suc k) end all h l = by-join (λ e a. rest k e a) all (confirmed sync (drop end ws)) refl (continues (getD ws (suc end) 0)) refl
+  pub after-joined : (k end : ℕ) (all : Bool) → length ws ≤ end + k → end ≤ length ws → AfterJoined end (joining end all (listedFrom sync ws end))
+  after-joined zero end all h l =
+      after-none-joined end all l (joining-stop sync ws end all (rw (confirmed-end sync end ws (omega arith)) (and-false all)))
+  after-joined (suc k) end all h l = by-join (λ e a. after-joined k e a) all (confirmed sync (drop end ws)) refl (continues (getD ws (suc end) 0)) refl
     where
-      by-join : ((e : ℕ) (a : Bool) → length ws ≤ e + k → e ≤ length ws → Rest e (joining e a (listedFrom sync ws e)))
+      by-join : ((e : ℕ) (a : Bool) → length ws ≤ e + k → e ≤ length ws → AfterJoined e (joining e a (listedFrom sync ws e)))
           → (all b : Bool) → confirmed sync (drop end ws) ≡ b → (c : Bool) → continues (getD ws (suc end) 0) ≡ c
-          → Rest end (joining end all (listedFrom sync ws end))
-      by-join more false b z c y = rest-stop end false l (joining-stop sync ws end false refl)
-      by-join more true false z c y = rest-stop end true l (joining-stop sync ws end true (rw z))
-      by-join more true true z false y = rest-stop end true l (joining-stop sync ws end true (rw (z, y)))
+          → AfterJoined end (joining end all (listedFrom sync ws end))
+      by-join more false b z c y = after-none-joined end false l (joining-stop sync ws end false refl)
+      by-join more true false z c y = after-none-joined end true l (joining-stop sync ws end true (rw z))
+      by-join more true true z false y = after-none-joined end true l (joining-stop sync ws end true (rw (z, y)))
       by-join more true true z true y =
           let w : ℕ = getD ws (suc end) 0 in
-          let b = confirmed-bounds sync ws end (confirmed-there sync ws end z) z in
-          subst (Rest end) (sym (joining-step sync ws end w refl z y))
-          (rest-step end z w refl (joining (end + span w) (whole w) (listedFrom sync ws (end + span w))) (more (end + span w) (whole w) (omega arith) (b .0)))
+          let b = confirmed-bounds sync ws end (confirmed-inside sync ws end z) z in
+          subst (AfterJoined end) (sym (joining-step sync ws end w refl z y))
+          (after-one-joined end z w refl (joining (end + span w) (whole w) (listedFrom sync ws (end + span w))) (more (end + span w) (whole w) (omega arith) (b .0)))

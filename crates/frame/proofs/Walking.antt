@@ -21,7 +21,7 @@ use Rattle.frame.specs.Shape.{starts, continues, whole, joining, frameOf
 use Rattle.frame.specs.Picture.{unitsOf, frameLength}
 use Rattle.frame.specs.Described.{frame, described}
 use Rattle.frame.specs.Walk.{startsFrame, joinsFrame, closesFrame, reachOf}
-use Rattle.frame.proofs.Joining.{listedFrom, confirmed-there, next-here, joining-step, joining-stop, closes-at, Rest, rest}
+use Rattle.frame.proofs.Joining.{listedFrom, confirmed-inside, next-here, joining-step, joining-stop, closes-at-end, AfterJoined, after-joined}
 use Rattle.frame.proofs.Chunks.{data-more}
 
 -- what joins after a chunk with a payload of n words, which ends at `end`
@@ -44,7 +44,7 @@ module _ (sync : ℕ) (ws : List ℕ) (s : startsFrame sync ws ≡ true) where
   first-confirmed = and-left (confirmed sync ws) (starts first) s
 
   first-within : (0 + span first ≤ length ws) × (9 ≤ size first) × (size first ≤ 8184)
-  first-within = confirmed-bounds sync ws 0 (confirmed-there sync ws 0 first-confirmed) first-confirmed
+  first-within = confirmed-bounds sync ws 0 (confirmed-inside sync ws 0 first-confirmed) first-confirmed
 
   -- two words at the least
   pub longer-than-header : 2 < length ws
@@ -80,7 +80,7 @@ module _ (sync : ℕ) (ws : List ℕ) (s : startsFrame sync ws ≡ true) where
     pub joining-fits : eqb (n % 264) 0 && joinsFrame sync (drop end ws) ≡ true → (end + 1 < length ws) × (end + 2 + size (getD ws (end + 1) 0) ≤ length ws)
     joining-fits j =
         let c : confirmed sync (drop end ws) ≡ true = and-left (confirmed sync (drop end ws)) _ (and-right (eqb (n % 264) 0) _ j) in
-        let b = confirmed-bounds sync ws end (confirmed-there sync ws end c) c in
+        let b = confirmed-bounds sync ws end (confirmed-inside sync ws end c) c in
         let q : getD ws (suc end) 0 ≡ getD ws (end + 1) 0 = ap (λ (x : ℕ). getD ws x 0) (sym (add-one end)) in
         (omega (arith, b .0), omega (arith, b .0, ap size q))
 
@@ -96,7 +96,7 @@ module _ (sync : ℕ) (ws : List ℕ) (s : startsFrame sync ws ≡ true) where
         let d : getD (drop end ws) 1 0 ≡ w = getD-drop end ws 1 0 ∙ sym q in
         let y : continues w ≡ true = ap (λ (x : ℕ). continues x) (sym d) ∙ and-right (confirmed sync (drop end ws)) _ i in
         let h : w ≡ getD ws (suc end) 0 = q ∙ ap (λ (x : ℕ). getD ws x 0) (add-one end) in
-        let b : end + span w ≤ length ws = rw h (confirmed-bounds sync ws end (confirmed-there sync ws end c) c .0) in
+        let b : end + span w ≤ length ws = rw h (confirmed-bounds sync ws end (confirmed-inside sync ws end c) c .0) in
         let r : List Entry = ahead sync ws (size w) (end + span w) in
         let e : ahead sync ws n end ≡ entry end w ∷ r =
         ap (λ (x : Bool). joining end x (listedFrom sync ws end)) f ∙ joining-step sync ws end w h c y in
@@ -127,8 +127,8 @@ module _ (sync : ℕ) (ws : List ℕ) (s : startsFrame sync ws ≡ true) where
   pub frame-ends-inside : frameWords sync ws ≤ length ws
   unfolding listedWords
   frame-ends-inside =
-      let r : Rest sync ws (span first) (ahead sync ws (size first) (span first)) =
-      rest sync ws (length ws) (span first) (whole first) (omega arith) (omega (arith, first-within .0)) in
+      let r : AfterJoined sync ws (span first) (ahead sync ws (size first) (span first)) =
+      after-joined sync ws (length ws) (span first) (whole first) (omega arith) (omega (arith, first-within .0)) in
       omega (arith, r .within, ap listedWords first-and-ahead)
 
   -- whether the frame is complete is a question about the place where it ends
@@ -136,13 +136,13 @@ module _ (sync : ℕ) (ws : List ℕ) (s : startsFrame sync ws ≡ true) where
   unfolding complete listedWords
   complete-at-end =
       let es : List Entry = ahead sync ws (size first) (span first) in
-      let r : Rest sync ws (span first) es = rest sync ws (length ws) (span first) (whole first) (omega arith) (omega (arith, first-within .0)) in
+      let r : AfterJoined sync ws (span first) es = after-joined sync ws (length ws) (span first) (whole first) (omega arith) (omega (arith, first-within .0)) in
       let w : frameWords sync ws ≡ span first + listedWords es = ap listedWords first-and-ahead in
       let d : drop (length (frameChunks sync ws)) (reading sync ws) ≡ listedFrom sync ws (frameWords sync ws) =
       ap (λ (n : ℕ). drop n (reading sync ws)) (ap length first-and-ahead)
       ∙ ap (drop (suc (length es))) (next-here sync ws 0 first-confirmed .lists ∙ ap (λ (n : ℕ). entry 0 first ∷ listedFrom sync ws n) (zero-add (span first)))
-      ∙ r .on ∙ ap (listedFrom sync ws) (sym w) in
-      ap (closes ws (frameWords sync ws) (frameCamera ws)) d ∙ closes-at sync (frameCamera ws) ws (frameWords sync ws)
+      ∙ r .goes-on ∙ ap (listedFrom sync ws) (sym w) in
+      ap (closes ws (frameWords sync ws) (frameCamera ws)) d ∙ closes-at-end sync (frameCamera ws) ws (frameWords sync ws)
       ∙ rw (getD-drop (frameWords sync ws) ws 1 0, add-one, drop-drop 2 (frameWords sync ws) ws)
 
   -- a frame is described by how far it reaches and what stands at its end

@@ -61,41 +61,41 @@ joined end all (e ∷ es) =
 -- ---- where the chunks of a frame stand
 
 -- its header word is there, and it is confirmed
-record Stands (sync : ℕ) (ws : List ℕ) (e : Entry) : Type 0 where
+record HeaderAt (sync : ℕ) (ws : List ℕ) (e : Entry) : Type 0 where
   word : e .header ≡ getD (drop (e .position .0) ws) 1 0
   confirms : confirmed sync (drop (e .position .0) ws) ≡ true
 
 module _ (sync : ℕ) (ws : List ℕ) where
-  listed-stands : (e : Entry) → e ∈ reading sync ws → Stands sync ws e
+  listed-header-at : (e : Entry) → e ∈ reading sync ws → HeaderAt sync ws e
   unfolding listedAt
-  listed-stands e h =
+  listed-header-at e h =
       let t = listed-place sync ws e h in
       record { word = t .1; confirms = and-right (eqb (leftAt sync 0 ws (e .position .0)) 0) _ (t .0) }
 
-  within : (e : Entry) → Stands sync ws e → e .position .0 + span (e .header) ≤ length ws
+  within : (e : Entry) → HeaderAt sync ws e → e .position .0 + span (e .header) ≤ length ws
   within e s =
       let n : size (e .header) ≡ size (getD (drop (e .position .0) ws) 1 0) = ap size (s .word) in
       omega (arith, confirmed-within sync (drop (e .position .0) ws) (s .confirms), length-drop (e .position .0) ws)
 
   -- where no chunk is confirmed after the first n, there are no more
-  stops-there : (n at : ℕ) (es : List Entry) → EndToEnd at es → ((e : Entry) → e ∈ es → Stands sync ws e)
+  none-after-gap : (n at : ℕ) (es : List Entry) → EndToEnd at es → ((e : Entry) → e ∈ es → HeaderAt sync ws e)
       → confirmed sync (drop (at + listedWords (take n es)) ws) ≡ false → take n es ≡ es
   unfolding listedWords
-  stops-there zero at [] p s z = refl
-  stops-there (suc n) at [] p s z = refl
-  stops-there zero at (e ∷ es) p s z = absurd (false≢true (sym (rw (add-zero at) at z) ∙ (rw (p .0) at (s e (inl refl) .confirms))))
-  stops-there (suc n) at (e ∷ es) p s z =
-      ap (λ (l : List Entry). e ∷ l) (stops-there n (at + span (e .header)) es (p .1) (λ f h. s f (inr h)) (rw (add-assoc at) z))
+  none-after-gap zero at [] p s z = refl
+  none-after-gap (suc n) at [] p s z = refl
+  none-after-gap zero at (e ∷ es) p s z = absurd (false≢true (sym (rw (add-zero at) at z) ∙ (rw (p .0) at (s e (inl refl) .confirms))))
+  none-after-gap (suc n) at (e ∷ es) p s z =
+      ap (λ (l : List Entry). e ∷ l) (none-after-gap n (at + span (e .header)) es (p .1) (λ f h. s f (inr h)) (rw (add-assoc at) z))
 
 -- ---- its own words
 
 -- a confirmed chunk at the front of these words, and m words after it
-front : (sync m h : ℕ) (vs : List ℕ) → h ≡ getD vs 1 0 → confirmed sync vs ≡ true
+first-chunk-words : (sync m h : ℕ) (vs : List ℕ) → h ≡ getD vs 1 0 → confirmed sync vs ≡ true
     → take (span h + m) vs ≡ sync ∷ h ∷ (take (size h) (drop 2 vs) ++ take m (drop (span h) vs))
 unfolding confirmed headed
-front sync m h [] q c = absurd (false≢true c)
-front sync m h (w ∷ []) q c = absurd (false≢true c)
-front sync m h (w ∷ k ∷ vs) q c =
+first-chunk-words sync m h [] q c = absurd (false≢true c)
+first-chunk-words sync m h (w ∷ []) q c = absurd (false≢true c)
+first-chunk-words sync m h (w ∷ k ∷ vs) q c =
     let z : w ≡ sync = eqb-true w sync (and-left (eqb w sync) _ (and-left (eqb w sync && legal k) _ c)) in
     take-add (span h) m (w ∷ k ∷ vs) ∙ ap₂ (λ (x y : ℕ). x ∷ y ∷ (take (size h) vs ++ take m (drop (size h) vs))) z (sym q)
 
@@ -109,26 +109,26 @@ module _ (sync : ℕ) (ws : List ℕ) where
   row-entries at [] p = refl
   row-entries at (e ∷ es) p = ap₂ (λ (n : ℕ) (l : List Entry). entry n (e .header) ∷ l) (sym (p .0)) (row-entries (at + span (e .header)) es (p .1))
 
-  row-whole : (es : List Entry) → ((e : Entry) → e ∈ es → Stands sync ws e) → wholeRow (rowOf es) ≡ true
+  row-whole : (es : List Entry) → ((e : Entry) → e ∈ es → HeaderAt sync ws e) → wholeRow (rowOf es) ≡ true
   unfolding wholeRow confirmed
   row-whole [] s = refl
   row-whole (e ∷ es) s =
       let h : ℕ = e .header in
-      let t : Stands sync ws e = s e (inl refl) in
+      let t : HeaderAt sync ws e = s e (inl refl) in
       let l : legal h ≡ true = rw (t .word) (headed-parts sync (drop (e .position .0) ws) (and-left _ _ (t .confirms)) .2) in
       let n : length (payloadOf ws e) ≡ size h = payload-length ws (e .position .0) h (within sync ws e t) in
       and-both (wholeChunk (record { header = h; payload = payloadOf ws e })) _ (and-both (legal h) _ l (eq-eqb (length (payloadOf ws e)) (size h) n))
       (row-whole es (λ f i. s f (inr i)))
 
-  row-words : (at : ℕ) (es : List Entry) → EndToEnd at es → ((e : Entry) → e ∈ es → Stands sync ws e)
+  row-words : (at : ℕ) (es : List Entry) → EndToEnd at es → ((e : Entry) → e ∈ es → HeaderAt sync ws e)
       → take (listedWords es) (drop at ws) ≡ words sync (rowOf es)
   unfolding listedWords
   row-words at [] p s = refl
   row-words at (e ∷ es) p s =
       let h : ℕ = e .header in
-      let t : Stands sync ws e = s e (inl refl) in
+      let t : HeaderAt sync ws e = s e (inl refl) in
       let more : take (listedWords es) (drop (at + span h) ws) ≡ words sync (rowOf es) = row-words (at + span h) es (p .1) (λ f i. s f (inr i)) in
-      front sync (listedWords es) h (drop at ws) (rw (p .0) at (t .word)) (rw (p .0) at (t .confirms))
+      first-chunk-words sync (listedWords es) h (drop at ws) (rw (p .0) at (t .word)) (rw (p .0) at (t .confirms))
       ∙ ap₂ (λ (x y : List ℕ). sync ∷ h ∷ (take (size h) x ++ y))
       (drop-drop 2 at ws ∙ ap (λ (n : ℕ). drop (n + 2) ws) (sym (p .0)))
       (ap (take (listedWords es)) (drop-drop (span h) at ws) ∙ more)
@@ -180,15 +180,15 @@ module _ (sync : ℕ) (ws : List ℕ) (s : startsFrame sync ws ≡ true) where
       let j = joined (span h) (whole h) (listedFrom sync ws (span h)) in
       subst (EndToEnd 0) (sym (first-and-ahead sync ws s)) (refl, rw (zero-add (span h)) (j .endToEnd))
 
-  stand : (e : Entry) → e ∈ fs → Stands sync ws e
+  frame-header-at : (e : Entry) → e ∈ fs → HeaderAt sync ws e
   unfolding frameChunks
-  stand e h = listed-stands sync ws e (frame-among (reading sync ws) e h)
+  frame-header-at e h = listed-header-at sync ws e (frame-among (reading sync ws) e h)
 
   same-chunks : frameChunks sync own ≡ fs
   unfolding frameChunks
   same-chunks =
-      ap (λ (v : List ℕ). frameOf (reading sync v)) (row-words sync ws 0 fs end-to-end stand)
-      ∙ ap frameOf (lists-row sync 0 (rowOf sync ws fs) (row-whole sync ws fs stand) ∙ row-entries sync ws 0 fs end-to-end)
+      ap (λ (v : List ℕ). frameOf (reading sync v)) (row-words sync ws 0 fs end-to-end frame-header-at)
+      ∙ ap frameOf (lists-row sync 0 (rowOf sync ws fs) (row-whole sync ws fs frame-header-at) ∙ row-entries sync ws 0 fs end-to-end)
       ∙ frame-again (reading sync ws)
 
   same-units : frameUnits sync own ≡ frameUnits sync ws
@@ -199,7 +199,7 @@ module _ (sync : ℕ) (ws : List ℕ) (s : startsFrame sync ws ≡ true) where
   pub local : Local sync ws
   local = record {
     endToEnd = end-to-end;
-    stops = λ n z. stops-there sync ws (suc n) 0 fs end-to-end stand (rw (zero-add (listedWords (take (suc n) fs))) z);
+    stops = λ n z. none-after-gap sync ws (suc n) 0 fs end-to-end frame-header-at (rw (zero-add (listedWords (take (suc n) fs))) z);
     sameChunks = same-chunks;
     sameUnits = same-units;
   }

@@ -24,7 +24,7 @@ use Rattle.frame.specs.declared.Piece.the-variants.{Whole, Stray, End as Nothin
 use Rattle.frame.specs.Shape.{starts, continues, whole, joining, frameWords}
 use Rattle.frame.specs.Walk.{startsFrame}
 use Rattle.frame.specs.Pieces.{framesAndStrays, frameThere, strayThere, nextPiece}
-use Rattle.frame.proofs.Joining.{joining-one, listedFrom, Rest, rest}
+use Rattle.frame.proofs.Joining.{joining-one, listedFrom, AfterJoined, after-joined}
 use Rattle.frame.proofs.Walking.{ahead, first-and-ahead}
 use Rattle.frame.proofs.pieces.Stepping.{no-piece, health-passed, frame-next, stray-next, frame-starts}
 use Rattle.frame_laws.specs.Pieces.{piecesFrom, Says}
@@ -171,11 +171,11 @@ module _ (sync : ℕ) (ws : List ℕ) where
         let h : ℕ = e .header in
         let q : getD (drop at ws) 1 0 ≡ h = getD-drop at ws 1 0 ∙ ap (λ (i : ℕ). getD ws i 0) (add-one at) ∙ sym (n .word) in
         let js : List Entry = joining (past e) (whole h) (listedFrom sync ws (past e)) in
-        let r : Rest sync ws (past e) js = rest sync ws (length ws) (past e) (whole h) (omega arith) (n .within) in
+        let r : AfterJoined sync ws (past e) js = after-joined sync ws (length ws) (past e) (whole h) (omega arith) (n .within) in
         let g : at + frameWords sync (drop at ws) ≡ past e + listedWords js =
         rw q at (frame-end at (frame-starts sync ws p e (past e) n s)) in
         begins false true (no-continuation s) s
-        ∙ ap (λ (l : List Entry). e ∷ l) (passed (past e) (whole h) (listedFrom sync ws (past e)) ∙ ap (framesAndStrays 0 false) (r .on))
+        ∙ ap (λ (l : List Entry). e ∷ l) (passed (past e) (whole h) (listedFrom sync ws (past e)) ∙ ap (framesAndStrays 0 false) (r .goes-on))
         ∙ ap (λ (m : ℕ). e ∷ piecesFrom sync ws m) (sym g)
         ∙ ap (λ (f : Entry). f ∷ piecesFrom sync ws (at + frameWords sync (drop at ws))) named
       where

@@ -246,18 +246,18 @@ module _ (sync cam : ℕ) (us : List (List ℕ)) (uss : List (List (List ℕ))) 
         observes-front cam health (words sync after) (w .closing),
       ) (w .observed)
 
-  data-is : joinedData (frameUnits sync here) ≡ joined ds
-  data-is = ap joinedData own-units ∙ held-data (allUnits (us ∷ uss)) ds (w .hold)
+  data-joined : joinedData (frameUnits sync here) ≡ joined ds
+  data-joined = ap joinedData own-units ∙ held-data (allUnits (us ∷ uss)) ds (w .hold)
 
-  length-is : dataWords (frameUnits sync here) ≡ length (joined ds)
-  length-is = sym (joined-length (frameUnits sync here)) ∙ ap length data-is
+  data-length : dataWords (frameUnits sync here) ≡ length (joined ds)
+  data-length = sym (joined-length (frameUnits sync here)) ∙ ap length data-joined
 
   own-described : described sync here ≡ frame 0 cam (length (us ∷ uss)) true (length (joined ds))
   unfolding described
   own-described =
       let n : length (frameChunks sync here) ≡ length (us ∷ uss) =
       ap length own-chunks ∙ entry-count 0 row ∙ chunk-count cam (us ∷ uss) in
-      rw (camera-written 0 cam (joined us) first-taken, n, own-complete, length-is)
+      rw (camera-written 0 cam (joined us) first-taken, n, own-complete, data-length)
 
   module _ (before : List Laid) (j : wholeRow before ≡ true) (s : length (recordingOf sync cam before (us ∷ uss) health after) ≤ recordingLimit) where
     abbrev all : List ℕ
@@ -291,24 +291,24 @@ module _ (sync cam : ℕ) (us : List (List ℕ)) (uss : List (List (List ℕ))) 
     accepts : (m : ℕ) → length (joined ds) ≤ m → verdict (readCauses sync all place m) ≡ 0
     accepts m l =
         let f : ltb m (dataWords (frameUnits sync (drop place all))) ≡ false =
-        le-ltb m _ (rw (ap (λ (v : List ℕ). dataWords (frameUnits sync v)) there ∙ length-is) l) in
+        le-ltb m _ (rw (ap (λ (v : List ℕ). dataWords (frameUnits sync v)) there ∙ data-length) l) in
         rw (short, listed-there, whole-there, sound-there, f)
 
-    back : ComesBack sync cam place (length (us ∷ uss)) all ds
+    frame-back : ComesBack sync cam place (length (us ∷ uss)) all ds
     unfolding atReply judgeReply readReply readRoom
-    back = record {
+    frame-back = record {
       described = answer-yes (verdict (atCauses sync all place)) refused _ (rw (short, listed-there)) ∙ described-there;
       judges = answer-yes (verdict (judgeCauses sync all place)) refused _ (rw (short, listed-there, whole-there, sound-there)) ∙ described-there;
       replies = λ m l. answer-yes (verdict (readCauses sync all place m)) refused _ (accepts m l) ∙ described-there;
       gives = λ room l.
           answer-yes (verdict (readCauses sync all place (length room))) (λ v. room) _ (accepts (length room) l)
-          ∙ ap (λ (d : List ℕ). put d 0 room) (ap (λ (v : List ℕ). joinedData (frameUnits sync v)) there ∙ data-is);
+          ∙ ap (λ (d : List ℕ). put d 0 room) (ap (λ (v : List ℕ). joinedData (frameUnits sync v)) there ∙ data-joined);
     }
 
 pub comes-back : FramesComeBack
 unfolding fullButLast
 comes-back sync cam before [] health after ds w j k s = absurd (false≢true (w .full))
-comes-back sync cam before (us ∷ uss) health after ds w j k s = back sync cam us uss health after ds w k before j s
+comes-back sync cam before (us ∷ uss) health after ds w j k s = frame-back sync cam us uss health after ds w k before j s
 
 -- ---- what the packet writer writes
 

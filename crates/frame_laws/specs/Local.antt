@@ -1,5 +1,5 @@
--- A frame is a matter of its own words: no skipped word lies inside it, a continuation after a skipped word joins nothing and is stray, and no word from
--- before its first chunk or after its last is in its data.
+-- FORMAT, "Frames": a frame is a matter of its own words. No skipped word lies inside it, a continuation after a skipped word joins nothing and is stray, and
+-- no word from before its first chunk or after its last is in its data.
 use Prim.Native.Nat.{ℕ, suc, _+_}
 use mathlib.Core.Path.{_≡_}
 use mathlib.Core.Bool.{true, false}

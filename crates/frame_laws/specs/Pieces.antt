@@ -1,5 +1,5 @@
--- Going through a recording with the next frame or stray from a place, and on from the place that it gives, finds the recording's frames and strays in
--- order of position, and no others.
+-- FORMAT, "Frames" and "Listing program": going through a recording with the next frame or stray from a place, and on from the place that it gives, finds the
+-- recording's frames and strays in order of position, and no others.
 use Prim.Native.Nat.{ℕ, suc}
 use mathlib.Core.Path.{_≡_}
 use mathlib.Core.Bool.{false}

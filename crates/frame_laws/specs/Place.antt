@@ -1,5 +1,5 @@
--- The law of place: what the calls for a frame say at a listed place they say at place 0 of the words from there on. So a program that steps through the
--- frames of a recording, and judges or reads each from its own first word on, goes through the recording once.
+-- FORMAT, "Frames": the law of place. What the calls for a frame say at a listed place they say at place 0 of the words from there on. So a program that steps
+-- through the frames of a recording, and judges or reads each from its own first word on, goes through the recording once.
 use Prim.Native.Nat.{ℕ, _≤_}
 use mathlib.Core.Path.{_≡_}
 use mathlib.Core.Bool.{true}

@@ -1,4 +1,4 @@
--- Demand 3 for frames: after any words, every frame that starts in a listed chunk of a clean stretch is that of the stretch alone.
+-- FORMAT, "The three demands": demand 3 for frames. After any words, every frame that starts in a listed chunk of a clean stretch is that of the stretch alone.
 use Prim.Native.Nat.{ℕ, _+_}
 use mathlib.Core.Path.{_≡_}
 use mathlib.Core.List.{List, _∷_, _++_}

@@ -1,4 +1,4 @@
--- Demand 2 for frames: a frame that is written chunk by chunk, with its observation packet after it, is complete and gives its data back.
+-- FORMAT, "The three demands": demand 2 for frames. A frame that is written chunk by chunk, with its observation packet after it, is complete and gives its data back.
 use Prim.Native.Nat.{ℕ, _%_, _≤_}
 use mathlib.Core.Path.{_≡_}
 use mathlib.Core.Bool.{Bool, true, false, _&&_}

@@ -28,7 +28,7 @@ use Rattle.frame.specs.Pieces.{frameThere, nextPiece}
 use Rattle.frame.specs.Walk.{startsFrame}
 use Rattle.frame_reading.specs.Along.{wordsAlong, unitsAlong}
 use Rattle.frame_reading.specs.Replies.{refused, atCauses, atReply, judgeCauses, judgeReply, readCauses, readReply, readRoom}
-use Rattle.frame.proofs.Joining.{confirmed-there, next-here}
+use Rattle.frame.proofs.Joining.{confirmed-inside, next-here}
 use Rattle.frame.proofs.Walking.{longer-than-header}
 use Rattle.frame.proofs.pieces.Stepping.{frame-next}
 use Rattle.frame_reading.proofs.Rows.{frame-units, frame-within, frame-data}
@@ -52,7 +52,7 @@ module _ (sync p : ℕ) (ws : List ℕ) where
   pub listed-inside : listedAt sync ws p ≡ true → p + 1 < length ws
   listed-inside e =
       let c = listed-confirmed e in
-      omega (arith, confirmed-bounds sync ws p (confirmed-there sync ws p c) c .0)
+      omega (arith, confirmed-bounds sync ws p (confirmed-inside sync ws p c) c .0)
 
   pub too-long : tooLong ws ≡ true → wrongLength ≡ verdict (atCauses sync ws p)
   too-long h = simp h

@@ -22,13 +22,13 @@ use Rattle.parity_units.proofs.Split.{Fair, fair-append, units-fair, given-all}
 use Rattle.frame.specs.Shape.{starts, continues, whole, joining, frameChunks, frameWords}
 use Rattle.frame.specs.Picture.{payloadOf, chunkUnits, unitsOf, frameUnits, frameData}
 use Rattle.frame.specs.Walk.{startsFrame}
-use Rattle.frame.proofs.Joining.{listedFrom, confirmed-there, joining-step, joining-stop}
+use Rattle.frame.proofs.Joining.{listedFrom, confirmed-inside, joining-step, joining-stop}
 use Rattle.frame.proofs.Chunks.{image-size, payload-length}
 use Rattle.frame.proofs.Walking.{first-and-ahead, frame-ends-inside}
 use Rattle.frame_reading.specs.Along.{wordsAlong, unitsAlong}
 
 pub record Placed (ws : List ℕ) (at : ℕ) (e : Entry) : Type 0 where
-  pub is : e ≡ entry at (getD ws (suc at) 0)
+  pub entry-here : e ≡ entry at (getD ws (suc at) 0)
   pub within : at + span (e .header) ≤ length ws
   pub image : imageSize (size (e .header)) ≡ true
 
@@ -41,8 +41,8 @@ module _ (sync : ℕ) (ws : List ℕ) where
   placed at c i =
       let d : getD (drop at ws) 1 0 ≡ getD ws (suc at) 0 = getD-drop at ws 1 0 ∙ ap (λ (n : ℕ). getD ws n 0) (add-one at) in
       record {
-        is = refl;
-        within = confirmed-bounds sync ws at (confirmed-there sync ws at c) c .0;
+        entry-here = refl;
+        within = confirmed-bounds sync ws at (confirmed-inside sync ws at c) c .0;
         image = rw d at (image-size sync (drop at ws) c (rw d i));
       }
 
@@ -96,14 +96,14 @@ row-along ws at (e ∷ es) r =
     let v : List ℕ = drop at ws in
     let w : ℕ = getD ws (suc at) 0 in
     let p : Placed ws at e = r .0 in
-    let h : e .header ≡ w = ap (λ (x : Entry). x .header) (p .is) in
+    let h : e .header ≡ w = ap (λ (x : Entry). x .header) (p .entry-here) in
     let d : getD v 1 0 ≡ e .header = getD-drop at ws 1 0 ∙ ap (λ (n : ℕ). getD ws n 0) (add-one at) ∙ sym h in
     let f : drop (span (getD v 1 0)) v ≡ drop (at + span (e .header)) ws =
     ap (λ (n : ℕ). drop (span n) v) d ∙ drop-drop (span (e .header)) at ws in
     let y : take (size (getD v 1 0)) (drop 2 v) ≡ payloadOf ws e =
-    ap₂ (λ (n : ℕ) (x : List ℕ). take (size n) x) d (drop-drop 2 at ws) ∙ ap (λ (n : ℕ). take (size (e .header)) (drop (n + 2) ws)) (sym (ap (λ (x : Entry). x .position .0) (p .is))) in
+    ap₂ (λ (n : ℕ) (x : List ℕ). take (size n) x) d (drop-drop 2 at ws) ∙ ap (λ (n : ℕ). take (size (e .header)) (drop (n + 2) ws)) (sym (ap (λ (x : Entry). x .position .0) (p .entry-here))) in
     let l : length (payloadOf ws e) ≡ size (e .header) =
-    ap (λ (n : ℕ). length (payloadOf ws (entry n (e .header)))) (ap (λ (x : Entry). x .position .0) (p .is)) ∙ payload-length ws at (e .header) (p .within) in
+    ap (λ (n : ℕ). length (payloadOf ws (entry n (e .header)))) (ap (λ (x : Entry). x .position .0) (p .entry-here)) ∙ payload-length ws at (e .header) (p .within) in
     let a : Along ws (at + span (e .header)) es = row-along ws (at + span (e .header)) es (r .1) in
     record {
       words = ap₂ (λ (m n : ℕ). m + n) (ap span d) (ap (wordsAlong (length es)) f ∙ a .words);
