@@ -8,17 +8,23 @@ ran=0
 failed=0
 
 # The program's lines for what comes on standard input are those of a file.
-expect() { # NAME FILE
-    ./hawserfen listing >"$work/got" 2>"$work/said"
+expect() { # NAME FILE [COMMAND..]
+    local case=$1 wanted=$2 status
+    shift 2
+    [ $# -gt 0 ] || set -- ./hawserfen listing
+    "$@" >"$work/got" 2>"$work/said"
     status=$?
     ran=$((ran + 1))
-    if [ "$status" -ne 0 ] || [ -s "$work/said" ] || ! cmp -s "$work/got" "$2"; then
+    if [ "$status" -ne 0 ] || [ -s "$work/said" ] || ! cmp -s "$work/got" "$wanted"; then
         failed=$((failed + 1))
-        echo "listing: $1: wrong (status $status)"
-        diff "$2" "$work/got" | head -n 6
+        echo "listing: $case: wrong (status $status)"
+        diff "$wanted" "$work/got" | head -n 6
         head -n 6 "$work/said"
     fi
 }
+
+# what is said while the program is proved and built is no complaint of the program
+./hawserfen listing </dev/null >/dev/null || exit 1
 
 python3 tests/listing_cases.py "$work" || exit 1
 for file in "$work"/*.rec; do
@@ -47,12 +53,9 @@ slowly odd_bytes 1
 expect 'no input' tests/listing/none.out </dev/null
 
 # a megabyte of stack is plenty
-(
-    ulimit -S -s 1024
-    python3 tests/listing_second.py <"$work/limit_shortest_chunks.rec" >"$work/second"
-    expect 'on a small stack' "$work/second" <"$work/limit_shortest_chunks.rec"
-    exit "$failed"
-) || failed=$((failed + 1))
+small_stack() { (ulimit -S -s 1024 && exec ./hawserfen listing); }
+python3 tests/listing_second.py <"$work/limit_shortest_chunks.rec" >"$work/second" || exit 1
+expect 'on a small stack' "$work/second" small_stack <"$work/limit_shortest_chunks.rec"
 
 echo "listing: $ran cases, $failed failed"
 [ "$failed" -eq 0 ]

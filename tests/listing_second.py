@@ -1,7 +1,7 @@
 #!/usr/bin/env python3
-"""The listing of a recording once more, written from document 01 alone and sharing nothing with the library.
+"""The listing of a recording once more, written from the rules alone and sharing nothing with the library.
 
-Reads the sync word and the recording from standard input, high byte first, and writes the lines of document 01, "Listing program"."""
+Reads the sync word and the recording from standard input, high byte first, and writes the lines of FORMAT, "Listing program"."""
 import binascii
 import sys
 

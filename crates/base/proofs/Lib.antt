@@ -6,3 +6,4 @@ pub mod XorLaws
 pub mod Linear
 pub mod Every
 pub mod Walk
+pub mod Filling

@@ -1,13 +1,13 @@
 -- Laws of verdicts and answers.
 use mathlib.Core.Path.{_≡_, refl, sym}
 use mathlib.Core.Bool.{Bool, true, false, cond, _&&_}
-use mathlib.Core.List.{List, [], _∷_}
+use mathlib.Core.List.{List, [], _∷_, _++_}
 use Prim.Native.Nat.{ℕ}
 use native.Mathlib.Omega.{arith}
 use lib.Dec.{ltb, eqb}
 use borrow.Author.Tests.{eq-eqb, ne-eqb, ltb-true, eqb-true}
 use Rattle.base.proofs.Booleans.{and-left, and-right}
-use Rattle.base.specs.Refusal.{verdict, answer, settled, wrote}
+use Rattle.base.specs.Refusal.{Causes, verdict, answer, settled, wrote}
 
 -- no cause's number is 0; `refl` shows it of a list that is written out
 abbrev pub numbered : List (ℕ × Bool) → Bool
@@ -24,6 +24,18 @@ pub spared : (cs : List (ℕ × Bool)) → numbered cs ≡ true → verdict cs �
 spared [] k e = tt
 spared ((n, false) ∷ cs) k e = (refl, spared cs (and-right (ltb 0 n) _ k) e)
 spared ((n, true) ∷ cs) k e = absurd (omega (arith, e, ltb-true 0 n (and-left (ltb 0 n) _ k)))
+
+-- causes and further causes: a refusal is kept
+pub verdict-kept : (cs ds : Causes) → (verdict cs ≡ 0 → ⊥) → verdict (cs ++ ds) ≡ verdict cs
+verdict-kept [] ds h = absurd (h refl)
+verdict-kept ((n, true) ∷ cs) ds h = refl
+verdict-kept ((n, false) ∷ cs) ds h = verdict-kept cs ds h
+
+-- and where nothing is refused, the further causes decide
+pub verdict-further : (cs ds : Causes) → numbered cs ≡ true → verdict cs ≡ 0 → verdict (cs ++ ds) ≡ verdict ds
+verdict-further [] ds k h = refl
+verdict-further ((n, true) ∷ cs) ds k h = absurd (omega (arith, h, ltb-true 0 n (and-left (ltb 0 n) (numbered cs) k)))
+verdict-further ((n, false) ∷ cs) ds k h = verdict-further cs ds (and-right (ltb 0 n) (numbered cs) k) h
 
 pub answer-no : {A : Type 0} (v : ℕ) (f : ℕ → A) (a : A) → (v ≡ 0 → ⊥) → answer v f a ≡ f v
 unfolding answer

@@ -23,24 +23,24 @@ pub check-no : (b : Bool) → checkOf b ≡ Check.NotAChunk → b ≡ false
 check-no true e = let z : _≡_ {A = ℕ} 0 1 = cc in absurd (omega arith)
 check-no false e = refl
 
--- a legal payload has a word at the least, and the longest chunk has 8,186 words
-pub legal-size : (k n : ℕ) → legalSize k n ≡ true → (1 ≤ n) × (n ≤ 8184)
+-- a legal payload has 9 words at the least, and the longest chunk has 8,186
+pub legal-size : (k n : ℕ) → legalSize k n ≡ true → (9 ≤ n) × (n ≤ 8184)
 unfolding legalSize
 legal-size k n e =
     let bounds : leb 1 n && leb n 8190 ≡ true = and-left (leb 1 n && leb n 8190) (cond (eqb k 0) (imageSize n) (healthSize n)) e in
     let low : 1 ≤ n = leb-true 1 n (and-left (leb 1 n) (leb n 8190) bounds) in
     let high : n ≤ 8190 = leb-true n 8190 (and-right (leb 1 n) (leb n 8190) bounds) in
-    go low high (eqb k 0) (and-right (leb 1 n && leb n 8190) (cond (eqb k 0) (imageSize n) (healthSize n)) e)
+    by-kind low high (eqb k 0) (and-right (leb 1 n && leb n 8190) (cond (eqb k 0) (imageSize n) (healthSize n)) e)
   where
-    go : 1 ≤ n → n ≤ 8190 → (b : Bool) → cond b (imageSize n) (healthSize n) ≡ true → (1 ≤ n) × (n ≤ 8184)
-    go low high true c =
-        elim (or-cases (eqb (n % 264) 0) (leb 9 (n % 264)) c) as (λ x. (1 ≤ n) × (n ≤ 8184)) [
-          | inl z ↦ (low, omega (arith, eqb-true (n % 264) 0 z))
-          | inr z ↦ (low, omega (arith, leb-true 9 (n % 264) z))
+    by-kind : 1 ≤ n → n ≤ 8190 → (b : Bool) → cond b (imageSize n) (healthSize n) ≡ true → (9 ≤ n) × (n ≤ 8184)
+    by-kind low high true c =
+        elim (or-cases (eqb (n % 264) 0) (leb 9 (n % 264)) c) as (λ x. (9 ≤ n) × (n ≤ 8184)) [
+          | inl z ↦ let t = eqb-true (n % 264) 0 z in (omega arith, omega arith)
+          | inr z ↦ let t = leb-true 9 (n % 264) z in (omega arith, omega arith)
         ]
-    go low high false c = (low, omega (arith, eqb-true (n % 32) 0 c))
+    by-kind low high false c = let t = eqb-true (n % 32) 0 c in (omega arith, omega arith)
 
-pub legal-bounds : (h : ℕ) → legal h ≡ true → (1 ≤ size h) × (size h ≤ 8184)
+pub legal-bounds : (h : ℕ) → legal h ≡ true → (9 ≤ size h) × (size h ≤ 8184)
 unfolding legal
 legal-bounds h e = legal-size (kind h) (size h) (and-left (legalSize (kind h) (size h)) _ e)
 
@@ -61,7 +61,7 @@ ends-within sync n ws e =
     ]
 
 -- a confirmed chunk lies within the words, and its size is legal
-pub confirmed-within : (sync : ℕ) (ws : List ℕ) → confirmed sync ws ≡ true → (span (getD ws 1 0) ≤ length ws) × (1 ≤ size (getD ws 1 0)) × (size (getD ws 1 0) ≤ 8184)
+pub confirmed-within : (sync : ℕ) (ws : List ℕ) → confirmed sync ws ≡ true → (span (getD ws 1 0) ≤ length ws) × (9 ≤ size (getD ws 1 0)) × (size (getD ws 1 0) ≤ 8184)
 unfolding confirmed
 confirmed-within sync ws e =
     let h : headed sync ws ≡ true = and-left (headed sync ws) (ends sync (span (getD ws 1 0)) ws) e in
@@ -76,8 +76,8 @@ no-header sync [] h = refl
 no-header sync (w ∷ []) h = refl
 no-header sync (w ∷ v ∷ l) h = absurd (omega arith)
 
-shifted : (n at l end : ℕ) → at + n ≡ end → at ≤ l → eqb n (l - at) ≡ eqb end l
-shifted n at l end e h = go (eqb end l) refl
+end-shifted : (n at l end : ℕ) → at + n ≡ end → at ≤ l → eqb n (l - at) ≡ eqb end l
+end-shifted n at l end e h = go (eqb end l) refl
   where
     go : (b : Bool) → eqb end l ≡ b → eqb n (l - at) ≡ b
     go true z = eq-eqb n (l - at) (omega (arith, eqb-true end l z))
@@ -88,9 +88,9 @@ module _ (sync : ℕ) (ws : List ℕ) (at : ℕ) where
   headed-none h = no-header sync (drop at ws) (simp length-drop (omega arith))
 
   -- the two words of a header
-  pub headed-is : at + 1 < length ws → headed sync (drop at ws) ≡ eqb (getD ws at 0) sync && legal (getD ws (at + 1) 0)
+  pub headed-by-words : at + 1 < length ws → headed sync (drop at ws) ≡ eqb (getD ws at 0) sync && legal (getD ws (at + 1) 0)
   unfolding headed
-  headed-is h =
+  headed-by-words h =
       rw (drop-cons ws at 0 (omega arith), ← add-one at, drop-cons ws (at + 1) 0 h)
 
   -- a header lies within the recording
@@ -102,12 +102,12 @@ module _ (sync : ℕ) (ws : List ℕ) (at : ℕ) where
   confirmed-none e = ap (λ (b : Bool). b && ends sync (span (getD (drop at ws) 1 0)) (drop at ws)) e
 
   -- where a header stands, the chunk is confirmed by what stands at its end
-  pub confirmed-is : (end : ℕ) → headed sync (drop at ws) ≡ true → end ≡ at + 2 + size (getD ws (at + 1) 0)
+  pub confirmed-by-end : (end : ℕ) → headed sync (drop at ws) ≡ true → end ≡ at + 2 + size (getD ws (at + 1) 0)
       → confirmed sync (drop at ws) ≡ eqb end (length ws) || headed sync (drop end ws)
   unfolding confirmed ends
-  confirmed-is end e n =
+  confirmed-by-end end e n =
       let s : at + span (getD (drop at ws) 1 0) ≡ end = omega (arith, ap size (getD-drop at ws 1 0)) in
       let l : eqb (span (getD (drop at ws) 1 0)) (length (drop at ws)) ≡ eqb end (length ws) =
-      ap (eqb (span (getD (drop at ws) 1 0))) (length-drop at ws) ∙ shifted (span (getD (drop at ws) 1 0)) at (length ws) end s (omega (arith, headed-inside e)) in
+      ap (eqb (span (getD (drop at ws) 1 0))) (length-drop at ws) ∙ end-shifted (span (getD (drop at ws) 1 0)) at (length ws) end s (omega (arith, headed-inside e)) in
       let d : drop (span (getD (drop at ws) 1 0)) (drop at ws) ≡ drop end ws = drop-drop (span (getD (drop at ws) 1 0)) at ws ∙ ap (λ (m : ℕ). drop m ws) s in
       rw (e, l, d)

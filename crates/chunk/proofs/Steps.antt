@@ -1,6 +1,6 @@
 -- The reading of a recording in steps of the search: from a place where no chunk is in hand, the words up to the next confirmed chunk are skipped,
 -- that chunk is listed, and the reading stands at its end with no chunk in hand. Places count from the recording's start; `drop p ws` are the words from p on.
-use mathlib.Core.Path.{_≡_, refl, sym, ap, subst, _∙_}
+use mathlib.Core.Path.{_≡_, refl, sym, ap, ap₂, subst, _∙_}
 use mathlib.Core.Bool.{Bool, true, false, cond, _&&_, and-false}
 use mathlib.Core.List.{List, [], _∷_}
 use Prim.Native.Nat.{ℕ, zero, suc, _+_, _-_, _≤_, _<_}
@@ -11,10 +11,11 @@ use lib.ListN.{length, getD, drop, length-drop, drop-of-length-le}
 use lib.Seq.{drop-cons, drop-drop, getD-drop}
 use lib.Dec.{ltb}
 use borrow.Author.Tests.{eq-eqb, ne-eqb, ltb-true, ltb-false}
+use Rattle.base.specs.declared.Words.{Words}
 use Rattle.chunk.specs.declared.Entry.{Entry}
 use Rattle.chunk.specs.declared.Found.{Found}
 use Rattle.chunk.specs.Header.{size, span, headed, ends, confirmed}
-use Rattle.chunk.specs.Reading.{entry, listed, skippedFrom, leftAt, listedAt, found, nextFrom}
+use Rattle.chunk.specs.Reading.{entry, listed, skippedFrom, leftAt, listedAt, chunkAt, found, nextFrom}
 use Rattle.chunk.proofs.Headers.{confirmed-within}
 
 -- ---- a chunk in hand is passed
@@ -72,10 +73,10 @@ skipped-one sync w ws false e =
     ap (λ (b : Bool). elim b as (λ x. ℕ) [ true ↦ skippedFrom sync (suc (size (getD ws 0 0))) ws | false ↦ suc (skippedFrom sync 0 ws) ]) e
 
 found-one : (sync at : ℕ) (w : ℕ) (ws : List ℕ) (b : Bool) → confirmed sync (w ∷ ws) ≡ b
-    → found sync at (w ∷ ws) ≡ cond b (Found.Chunk (entry at (getD ws 0 0))) (found sync (suc at) ws)
+    → found sync at (w ∷ ws) ≡ cond b (chunkAt at (getD ws 0 0)) (found sync (suc at) ws)
 unfolding found
-found-one sync at w ws true e = ap (λ (b : Bool). elim b as (λ x. Found) [ true ↦ Found.Chunk (entry at (getD ws 0 0)) | false ↦ found sync (suc at) ws ]) e
-found-one sync at w ws false e = ap (λ (b : Bool). elim b as (λ x. Found) [ true ↦ Found.Chunk (entry at (getD ws 0 0)) | false ↦ found sync (suc at) ws ]) e
+found-one sync at w ws true e = ap (λ (b : Bool). elim b as (λ x. Found) [ true ↦ chunkAt at (getD ws 0 0) | false ↦ found sync (suc at) ws ]) e
+found-one sync at w ws false e = ap (λ (b : Bool). elim b as (λ x. Found) [ true ↦ chunkAt at (getD ws 0 0) | false ↦ found sync (suc at) ws ]) e
 
 left-one : (sync n : ℕ) (w : ℕ) (ws : List ℕ) (b : Bool) → confirmed sync (w ∷ ws) ≡ b
     → leftAt sync 0 (w ∷ ws) (suc n) ≡ leftAt sync (cond b (suc (size (getD ws 0 0))) 0) ws n
@@ -90,74 +91,74 @@ confirmed-end sync p ws h = ap (λ (l : List ℕ). headed sync l && ends sync (s
 -- ---- one place of a recording
 
 module _ (sync : ℕ) (ws : List ℕ) (p : ℕ) (h : p < length ws) where
-  here : drop p ws ≡ getD ws p 0 ∷ drop (suc p) ws
-  here = drop-cons ws p 0 h
+  words-here : drop p ws ≡ getD ws p 0 ∷ drop (suc p) ws
+  words-here = drop-cons ws p 0 h
 
-  told : (b : Bool) → confirmed sync (drop p ws) ≡ b → confirmed sync (getD ws p 0 ∷ drop (suc p) ws) ≡ b
-  told b e = sym (ap (confirmed sync) here) ∙ e
+  confirmed-front : (b : Bool) → confirmed sync (drop p ws) ≡ b → confirmed sync (getD ws p 0 ∷ drop (suc p) ws) ≡ b
+  confirmed-front b e = sym (ap (confirmed sync) words-here) ∙ e
 
-  header : getD (drop (suc p) ws) 0 0 ≡ getD ws (suc p) 0
-  header = getD-drop (suc p) ws 0 0 ∙ ap (λ (n : ℕ). getD ws n 0) (add-zero (suc p))
+  header-next : getD (drop (suc p) ws) 0 0 ≡ getD ws (suc p) 0
+  header-next = getD-drop (suc p) ws 0 0 ∙ ap (λ (n : ℕ). getD ws n 0) (add-zero (suc p))
 
-  pub found-miss : confirmed sync (drop p ws) ≡ false → nextFrom sync ws p ≡ nextFrom sync ws (suc p)
-  found-miss e = ap (found sync p) here ∙ found-one sync p (getD ws p 0) (drop (suc p) ws) false (told false e)
+  pub found-later : confirmed sync (drop p ws) ≡ false → nextFrom sync ws p ≡ nextFrom sync ws (suc p)
+  found-later e = ap (found sync p) words-here ∙ found-one sync p (getD ws p 0) (drop (suc p) ws) false (confirmed-front false e)
 
-  pub found-hit : confirmed sync (drop p ws) ≡ true → nextFrom sync ws p ≡ Found.Chunk (entry p (getD ws (suc p) 0))
-  found-hit e =
-      ap (found sync p) here ∙ found-one sync p (getD ws p 0) (drop (suc p) ws) true (told true e)
-      ∙ ap (λ (x : ℕ). Found.Chunk (entry p x)) header
+  pub found-here : confirmed sync (drop p ws) ≡ true → nextFrom sync ws p ≡ chunkAt p (getD ws (suc p) 0)
+  found-here e =
+      ap (found sync p) words-here ∙ found-one sync p (getD ws p 0) (drop (suc p) ws) true (confirmed-front true e)
+      ∙ ap (chunkAt p) header-next
 
-  listed-miss : confirmed sync (drop p ws) ≡ false → listed sync p 0 (drop p ws) ≡ listed sync (suc p) 0 (drop (suc p) ws)
-  listed-miss e = ap (listed sync p 0) here ∙ listed-one sync p (getD ws p 0) (drop (suc p) ws) false (told false e)
+  listed-later : confirmed sync (drop p ws) ≡ false → listed sync p 0 (drop p ws) ≡ listed sync (suc p) 0 (drop (suc p) ws)
+  listed-later e = ap (listed sync p 0) words-here ∙ listed-one sync p (getD ws p 0) (drop (suc p) ws) false (confirmed-front false e)
 
-  skipped-miss : confirmed sync (drop p ws) ≡ false → skippedFrom sync 0 (drop p ws) ≡ suc (skippedFrom sync 0 (drop (suc p) ws))
-  skipped-miss e = ap (skippedFrom sync 0) here ∙ skipped-one sync (getD ws p 0) (drop (suc p) ws) false (told false e)
+  skipped-later : confirmed sync (drop p ws) ≡ false → skippedFrom sync 0 (drop p ws) ≡ suc (skippedFrom sync 0 (drop (suc p) ws))
+  skipped-later e = ap (skippedFrom sync 0) words-here ∙ skipped-one sync (getD ws p 0) (drop (suc p) ws) false (confirmed-front false e)
 
-  left-miss : confirmed sync (drop p ws) ≡ false → leftAt sync 0 ws p ≡ 0 → leftAt sync 0 ws (suc p) ≡ 0
+  left-later : confirmed sync (drop p ws) ≡ false → leftAt sync 0 ws p ≡ 0 → leftAt sync 0 ws (suc p) ≡ 0
   unfolding leftAt
-  left-miss e z =
+  left-later e z =
       ap (λ (n : ℕ). leftAt sync 0 ws n) (sym (add-one p)) ∙ left-split sync 0 p 1 ws ∙ ap (λ (n : ℕ). leftAt sync n (drop p ws) 1) z
-      ∙ ap (λ (x : List ℕ). leftAt sync 0 x 1) here ∙ left-one sync 0 (getD ws p 0) (drop (suc p) ws) false (told false e)
+      ∙ ap (λ (x : List ℕ). leftAt sync 0 x 1) words-here ∙ left-one sync 0 (getD ws p 0) (drop (suc p) ws) false (confirmed-front false e)
 
   module _ (e : confirmed sync (drop p ws) ≡ true) where
     abbrev word : ℕ
     word = getD ws (suc p) 0
 
-    pub hit-within : (p + span word ≤ length ws) × (1 ≤ size word) × (size word ≤ 8184)
-    hit-within =
+    pub confirmed-bounds : (p + span word ≤ length ws) × (9 ≤ size word) × (size word ≤ 8184)
+    confirmed-bounds =
         let b = confirmed-within sync (drop p ws) e in
         let n : size (getD (drop p ws) 1 0) ≡ size word = ap size (getD-drop p ws 1 0 ∙ ap (λ (n : ℕ). getD ws n 0) (add-one p)) in
         (omega (arith, simp length-drop at (b .0)), omega (arith, b .1), omega (arith, b .2))
 
     rest-long : suc (size word) ≤ length (drop (suc p) ws)
-    rest-long = simp length-drop (omega (arith, hit-within .0))
+    rest-long = simp length-drop (omega (arith, confirmed-bounds .0))
 
     rest-at : drop (suc (size word)) (drop (suc p) ws) ≡ drop (p + span word) ws
     rest-at =
         let n : suc p + suc (size word) ≡ p + span word = omega arith in
         drop-drop (suc (size word)) (suc p) ws ∙ ap (λ (m : ℕ). drop m ws) n
 
-    listed-hit : listed sync p 0 (drop p ws) ≡ entry p word ∷ listed sync (p + span word) 0 (drop (p + span word) ws)
-    listed-hit =
-        ap (listed sync p 0) here ∙ listed-one sync p (getD ws p 0) (drop (suc p) ws) true (told true e)
-        ∙ ap (λ (x : ℕ). entry p x ∷ listed sync (suc p) (suc (size x)) (drop (suc p) ws)) header
+    listed-here : listed sync p 0 (drop p ws) ≡ entry p word ∷ listed sync (p + span word) 0 (drop (p + span word) ws)
+    listed-here =
+        ap (listed sync p 0) words-here ∙ listed-one sync p (getD ws p 0) (drop (suc p) ws) true (confirmed-front true e)
+        ∙ ap (λ (x : ℕ). entry p x ∷ listed sync (suc p) (suc (size x)) (drop (suc p) ws)) header-next
         ∙ ap (λ (l : List Entry). entry p word ∷ l)
         (listed-on sync (suc p) (suc (size word)) (drop (suc p) ws) rest-long
         ∙ ap (λ (n : ℕ). listed sync n 0 (drop (suc (size word)) (drop (suc p) ws))) (omega arith)
         ∙ ap (listed sync (p + span word) 0) rest-at)
 
-    skipped-hit : skippedFrom sync 0 (drop p ws) ≡ skippedFrom sync 0 (drop (p + span word) ws)
-    skipped-hit =
-        ap (skippedFrom sync 0) here ∙ skipped-one sync (getD ws p 0) (drop (suc p) ws) true (told true e)
-        ∙ ap (λ (x : ℕ). skippedFrom sync (suc (size x)) (drop (suc p) ws)) header
+    skipped-here : skippedFrom sync 0 (drop p ws) ≡ skippedFrom sync 0 (drop (p + span word) ws)
+    skipped-here =
+        ap (skippedFrom sync 0) words-here ∙ skipped-one sync (getD ws p 0) (drop (suc p) ws) true (confirmed-front true e)
+        ∙ ap (λ (x : ℕ). skippedFrom sync (suc (size x)) (drop (suc p) ws)) header-next
         ∙ skipped-on sync (suc (size word)) (drop (suc p) ws) rest-long ∙ ap (skippedFrom sync 0) rest-at
 
-    left-hit : leftAt sync 0 ws p ≡ 0 → (i : ℕ) → p < i → i ≤ p + span word → leftAt sync 0 ws i ≡ (p + span word) - i
-    left-hit z i k m =
+    left-inside : leftAt sync 0 ws p ≡ 0 → (i : ℕ) → p < i → i ≤ p + span word → leftAt sync 0 ws i ≡ (p + span word) - i
+    left-inside z i k m =
         let n : i ≡ p + suc (i - suc p) = omega arith in
         ap (λ (j : ℕ). leftAt sync 0 ws j) n ∙ left-split sync 0 p (suc (i - suc p)) ws ∙ ap (λ (j : ℕ). leftAt sync j (drop p ws) (suc (i - suc p))) z
-        ∙ ap (λ (x : List ℕ). leftAt sync 0 x (suc (i - suc p))) here ∙ left-one sync (i - suc p) (getD ws p 0) (drop (suc p) ws) true (told true e)
-        ∙ ap (λ (x : ℕ). leftAt sync (suc (size x)) (drop (suc p) ws) (i - suc p)) header
+        ∙ ap (λ (x : List ℕ). leftAt sync 0 x (suc (i - suc p))) words-here ∙ left-one sync (i - suc p) (getD ws p 0) (drop (suc p) ws) true (confirmed-front true e)
+        ∙ ap (λ (x : ℕ). leftAt sync (suc (size x)) (drop (suc p) ws) (i - suc p)) header-next
         ∙ left-on sync (suc (size word)) (i - suc p) (drop (suc p) ws) (omega arith) rest-long ∙ omega arith
 
 -- ---- up to the next confirmed chunk
@@ -182,7 +183,7 @@ module _ (sync : ℕ) (ws : List ℕ) where
   listed-noise zero p h f = ap (λ (n : ℕ). listed sync n 0 (drop n ws)) (sym (add-zero p))
   listed-noise (suc k) p h f =
       let n : suc p + k ≡ p + suc k = omega arith in
-      listed-miss sync ws p (omega arith) (f p (omega arith) (omega arith))
+      listed-later sync ws p (omega arith) (f p (omega arith) (omega arith))
       ∙ listed-noise k (suc p) (omega arith) (λ i a b. f i (omega arith) (omega arith))
       ∙ ap (λ (m : ℕ). listed sync m 0 (drop m ws)) n
 
@@ -190,7 +191,7 @@ module _ (sync : ℕ) (ws : List ℕ) where
   skipped-noise zero p h f = ap (λ (n : ℕ). skippedFrom sync 0 (drop n ws)) (sym (add-zero p)) ∙ sym (zero-add _)
   skipped-noise (suc k) p h f =
       let n : suc p + k ≡ p + suc k = omega arith in
-      skipped-miss sync ws p (omega arith) (f p (omega arith) (omega arith))
+      skipped-later sync ws p (omega arith) (f p (omega arith) (omega arith))
       ∙ ap suc (skipped-noise k (suc p) (omega arith) (λ i a b. f i (omega arith) (omega arith)) ∙ ap (λ (m : ℕ). k + skippedFrom sync 0 (drop m ws)) n)
       ∙ sym (suc-add k _)
 
@@ -199,33 +200,43 @@ module _ (sync : ℕ) (ws : List ℕ) where
   left-noise (suc k) p h f z =
       let n : p + suc k ≡ suc p + k = omega arith in
       ap (λ (m : ℕ). leftAt sync 0 ws m) n
-      ∙ left-noise k (suc p) (omega arith) (λ i a b. f i (omega arith) (omega arith)) (left-miss sync ws p (omega arith) (f p (omega arith) (omega arith)) z)
+      ∙ left-noise k (suc p) (omega arith) (λ i a b. f i (omega arith) (omega arith)) (left-later sync ws p (omega arith) (f p (omega arith) (omega arith)) z)
 
   -- what the search finds is the first that is confirmed
-  record First (p : ℕ) (e : Entry) : Type 0 where
+  record First (p : ℕ) (e : Entry) (next : Words) : Type 0 where
     ahead : p ≤ e .position .0
     there : e .position .0 < length ws
     confirms : confirmed sync (drop (e .position .0) ws) ≡ true
     word : e ≡ entry (e .position .0) (getD ws (suc (e .position .0)) 0)
+    end : next .0 ≡ past e
     noise : Noise sync ws p (e .position .0)
 
   pub found-end : (p : ℕ) → length ws ≤ p → nextFrom sync ws p ≡ Found.End
   unfolding found
   found-end p h = ap (found sync p) (drop-of-length-le ws h)
 
-  first : (k p : ℕ) (e : Entry) → length ws ≤ p + k → nextFrom sync ws p ≡ Found.Chunk e → First p e
-  first zero p e h f = let z : _≡_ {A = ℕ} 0 1 = cc (found-end p (omega arith)) in absurd (omega arith)
-  first (suc k) p e h f = by-end (first k (suc p) e (omega arith)) (ltb p (length ws)) refl
+  first : (k p : ℕ) (e : Entry) (next : Words) → length ws ≤ p + k → nextFrom sync ws p ≡ Found.Chunk e next → First p e next
+  first zero p e next h f = let z : _≡_ {A = ℕ} 0 1 = cc (found-end p (omega arith)) in absurd (omega arith)
+  first (suc k) p e next h f = by-end (first k (suc p) e next (omega arith)) (ltb p (length ws)) refl
     where
-      by-check : (nextFrom sync ws (suc p) ≡ Found.Chunk e → First (suc p) e) → p < length ws → (b : Bool) → confirmed sync (drop p ws) ≡ b → First p e
+      by-check : (nextFrom sync ws (suc p) ≡ Found.Chunk e next → First (suc p) e next) → p < length ws → (b : Bool) → confirmed sync (drop p ws) ≡ b → First p e next
       by-check more l true z =
-          let s : e ≡ entry p (getD ws (suc p) 0) = cc (found-hit sync ws p l z) in
-          subst (First p) (sym s) (record { ahead = omega arith; there = l; confirms = z; word = refl; noise = λ i a b. absurd (omega arith) })
+          let s : e ≡ entry p (getD ws (suc p) 0) = cc (found-here sync ws p l z) in
+          let n : next ≡ record { 0 = p + span (getD ws (suc p) 0) } = cc (found-here sync ws p l z) in
+          subst (λ (x : Entry). First p x next) (sym s)
+          (record { ahead = omega arith; there = l; confirms = z; word = refl; end = ap (λ (x : Words). x .0) n; noise = λ i a b. absurd (omega arith) })
       by-check more l false z =
-          let r : First (suc p) e = more (sym (found-miss sync ws p l z) ∙ f) in
-          record { ahead = omega (arith, r .ahead); there = r .there; confirms = r .confirms; word = r .word; noise = noise-more sync ws p (e .position .0) z (r .noise) }
+          let r : First (suc p) e next = more (sym (found-later sync ws p l z) ∙ f) in
+          record {
+            ahead = omega (arith, r .ahead);
+            there = r .there;
+            confirms = r .confirms;
+            word = r .word;
+            end = r .end;
+            noise = noise-more sync ws p (e .position .0) z (r .noise);
+          }
 
-      by-end : (nextFrom sync ws (suc p) ≡ Found.Chunk e → First (suc p) e) → (b : Bool) → ltb p (length ws) ≡ b → First p e
+      by-end : (nextFrom sync ws (suc p) ≡ Found.Chunk e next → First (suc p) e next) → (b : Bool) → ltb p (length ws) ≡ b → First p e next
       by-end more true l = by-check more (ltb-true p (length ws) l) (confirmed sync (drop p ws)) refl
       by-end more false l = let z : _≡_ {A = ℕ} 0 1 = cc (found-end p (ltb-false p (length ws) l)) in absurd (omega arith)
 
@@ -235,8 +246,8 @@ module _ (sync : ℕ) (ws : List ℕ) where
   none (suc k) p h f = by-end (none k (suc p) (omega arith)) (ltb p (length ws)) refl
     where
       by-check : (nextFrom sync ws (suc p) ≡ Found.End → Noise sync ws (suc p) (length ws)) → p < length ws → (b : Bool) → confirmed sync (drop p ws) ≡ b → Noise sync ws p (length ws)
-      by-check more l true z = let x : _≡_ {A = ℕ} 0 1 = cc (found-hit sync ws p l z) in absurd (omega arith)
-      by-check more l false z = noise-more sync ws p (length ws) z (more (sym (found-miss sync ws p l z) ∙ f))
+      by-check more l true z = let x : _≡_ {A = ℕ} 0 1 = cc (found-here sync ws p l z) in absurd (omega arith)
+      by-check more l false z = noise-more sync ws p (length ws) z (more (sym (found-later sync ws p l z) ∙ f))
 
       by-end : (nextFrom sync ws (suc p) ≡ Found.End → Noise sync ws (suc p) (length ws)) → (b : Bool) → ltb p (length ws) ≡ b → Noise sync ws p (length ws)
       by-end more true l = by-check more (ltb-true p (length ws) l) (confirmed sync (drop p ws)) refl
@@ -257,24 +268,25 @@ pub listed-at-covered : (sync p : ℕ) (ws : List ℕ) → 0 < leftAt sync 0 ws 
 unfolding listedAt
 listed-at-covered sync p ws h = rw (ne-eqb (leftAt sync 0 ws p) 0 (λ z. omega arith))
 
--- The search from p finds the chunk e.
-pub record Next (sync : ℕ) (ws : List ℕ) (p : ℕ) (e : Entry) : Type 0 where
+-- The search from p finds the chunk e, with the place n past it.
+pub record Next (sync : ℕ) (ws : List ℕ) (p : ℕ) (e : Entry) (n : ℕ) : Type 0 where
+  pub end : n ≡ past e
   -- it begins at p or later, and ends within the recording
   pub ahead : p ≤ e .position .0
-  pub within : past e ≤ length ws
+  pub within : n ≤ length ws
   -- its header word stands after its first word, with a legal size
   pub word : e .header ≡ getD ws (suc (e .position .0)) 0
-  pub least : 1 ≤ size (e .header)
+  pub least : 9 ≤ size (e .header)
   pub most : size (e .header) ≤ 8184
   -- it is the first that is confirmed
   pub confirms : confirmed sync (drop (e .position .0) ws) ≡ true
   pub noise : Noise sync ws p (e .position .0)
   -- it is the first that is listed, and the words before it are skipped
-  pub lists : listed sync p 0 (drop p ws) ≡ e ∷ listed sync (past e) 0 (drop (past e) ws)
-  pub skips : skippedFrom sync 0 (drop p ws) ≡ (e .position .0 - p) + skippedFrom sync 0 (drop (past e) ws)
+  pub lists : listed sync p 0 (drop p ws) ≡ e ∷ listed sync n 0 (drop n ws)
+  pub skips : skippedFrom sync 0 (drop p ws) ≡ (e .position .0 - p) + skippedFrom sync 0 (drop n ws)
   -- where no chunk is in hand at p, none is up to its first word, and inside it what is left of it
   pub free : leftAt sync 0 ws p ≡ 0 → (i : ℕ) → p ≤ i → i ≤ e .position .0 → leftAt sync 0 ws i ≡ 0
-  pub inside : leftAt sync 0 ws p ≡ 0 → (i : ℕ) → e .position .0 < i → i ≤ past e → leftAt sync 0 ws i ≡ past e - i
+  pub inside : leftAt sync 0 ws p ≡ 0 → (i : ℕ) → e .position .0 < i → i ≤ n → leftAt sync 0 ws i ≡ n - i
 
 -- The search from p finds none.
 pub record Last (sync : ℕ) (ws : List ℕ) (p : ℕ) : Type 0 where
@@ -283,20 +295,22 @@ pub record Last (sync : ℕ) (ws : List ℕ) (p : ℕ) : Type 0 where
   pub skips : skippedFrom sync 0 (drop p ws) ≡ length ws - p
 
 module _ (sync : ℕ) (ws : List ℕ) (p : ℕ) where
-  pub stepped : (e : Entry) → nextFrom sync ws p ≡ Found.Chunk e → Next sync ws p e
-  stepped e f =
-      let r : First sync ws p e = first sync ws (length ws) p e (omega arith) f in
+  pub stepped : (e : Entry) (next : Words) → nextFrom sync ws p ≡ Found.Chunk e next → Next sync ws p e (next .0)
+  stepped e next f =
+      let r : First sync ws p e next = first sync ws (length ws) p e next (omega arith) f in
       let q : ℕ = e .position .0 in
       let h : getD ws (suc q) 0 ≡ e .header = sym (ap (λ (x : Entry). x .header) (r .word)) in
+      let to : q + span (getD ws (suc q) 0) ≡ next .0 = ap (λ (x : ℕ). q + span x) h ∙ sym (r .end) in
       let n : p + (q - p) ≡ q = omega (arith, r .ahead) in
-      let b = hit-within sync ws q (r .there) (r .confirms) in
+      let b = confirmed-bounds sync ws q (r .there) (r .confirms) in
       let quiet : Noise sync ws p (p + (q - p)) = λ i a l. r .noise i a (omega arith) in
       let clear : leftAt sync 0 ws p ≡ 0 → (i : ℕ) → p ≤ i → i ≤ q → leftAt sync 0 ws i ≡ 0 = λ z i a l.
       let m : p + (i - p) ≡ i = omega arith in
       ap (λ (k : ℕ). leftAt sync 0 ws k) (sym m) ∙ left-noise sync ws (i - p) p (omega (arith, r .there)) (λ j c d. r .noise j c (omega arith)) z in
       record {
+        end = r .end;
         ahead = r .ahead;
-        within = omega (arith, b .0, ap size h);
+        within = omega (arith, b .0);
         word = sym h;
         least = omega (arith, b .1, ap size h);
         most = omega (arith, b .2, ap size h);
@@ -305,17 +319,17 @@ module _ (sync : ℕ) (ws : List ℕ) (p : ℕ) where
         lists =
             listed-noise sync ws (q - p) p (omega (arith, r .there)) quiet
             ∙ ap (λ (m : ℕ). listed sync m 0 (drop m ws)) n
-            ∙ listed-hit sync ws q (r .there) (r .confirms)
-            ∙ ap (λ (x : Entry). x ∷ listed sync (past x) 0 (drop (past x) ws)) (sym (r .word));
+            ∙ listed-here sync ws q (r .there) (r .confirms)
+            ∙ ap₂ (λ (x : Entry) (m : ℕ). x ∷ listed sync m 0 (drop m ws)) (sym (r .word)) to;
         skips =
             skipped-noise sync ws (q - p) p (omega (arith, r .there)) quiet
             ∙ ap (λ (m : ℕ). (q - p) + skippedFrom sync 0 (drop m ws)) n
-            ∙ ap (λ (m : ℕ). (q - p) + m) (skipped-hit sync ws q (r .there) (r .confirms)
-            ∙ ap (λ (x : Entry). skippedFrom sync 0 (drop (past x) ws)) (sym (r .word)));
+            ∙ ap (λ (m : ℕ). (q - p) + m) (skipped-here sync ws q (r .there) (r .confirms)
+            ∙ ap (λ (m : ℕ). skippedFrom sync 0 (drop m ws)) to);
         free = clear;
         inside = λ z i a l.
-            left-hit sync ws q (r .there) (r .confirms) (clear z q (r .ahead) (omega arith)) i a (omega (arith, ap size h))
-            ∙ ap (λ (x : Entry). past x - i) (sym (r .word));
+            left-inside sync ws q (r .there) (r .confirms) (clear z q (r .ahead) (omega arith)) i a (omega arith)
+            ∙ ap (λ (m : ℕ). m - i) to;
       }
 
   pub ended : nextFrom sync ws p ≡ Found.End → Last sync ws p

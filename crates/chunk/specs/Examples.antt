@@ -1,14 +1,11 @@
--- Document 01, "Examples to prove", 1 to 3, and the recording of its "Listing program": the definitions compute them.
+-- FORMAT, "Chunks" and "Listing program": three of its examples and the recording of its listing; the definitions compute them.
 use mathlib.Core.Path.{_≡_, refl}
 use mathlib.Core.Bool.{true, false}
 use mathlib.Core.List.{List, [], _∷_, _++_, map}
 use Prim.Native.Nat.{ℕ}
 use lib.ListN.{replicate}
-use Rattle.base.specs.Refusal.{followsPaper}
 use Rattle.chunk.specs.Header.{legalSize, legal, headed, ends, confirmed}
 use Rattle.chunk.specs.Reading.{entry, listed, reading, skippedFrom, skipped}
-use Rattle.chunk.specs.Replies.{surveyCauses, atCauses}
-use Rattle.chunk.specs.Writing.{writeCauses}
 
 -- 1: an empty recording has no chunk and 0 skipped words; one sync word is 1 skipped
 pub emptyRecording : (sync : ℕ) → (reading sync [] ≡ []) × (skipped sync [] ≡ 0)
@@ -37,13 +34,3 @@ listing = 0x0007 ∷ 0x5AF3 ∷ 0x2009 ∷ replicate 9 0 ++ 0x5AF3 ∷ 0x8020 �
 pub listingRead : (reading 0x5AF3 listing ≡ entry 1 0x2009 ∷ entry 12 0x8020 ∷ []) × (skipped 0x5AF3 listing ≡ 1)
 unfolding listed skippedFrom confirmed ends headed legal legalSize
 listingRead = (refl, refl)
-
--- each call's causes stand in the paper's order
-pub surveyOrder : (ws : List ℕ) → followsPaper (surveyCauses ws) ≡ true
-surveyOrder ws = refl
-
-pub placeOrder : (sync : ℕ) (ws : List ℕ) (place : ℕ) → followsPaper (atCauses sync ws place) ≡ true
-placeOrder sync ws place = refl
-
-pub writeOrder : (k c n room : ℕ) → followsPaper (writeCauses k c n room) ≡ true
-writeOrder k c n room = refl

@@ -1,4 +1,4 @@
--- Document 01, "Chunks": the header word, legal headers, and confirmation.
+-- FORMAT, "Chunks": the header word, legal headers, and confirmation.
 use Prim.Native.Nat.{ℕ, suc, _/_, _%_}
 use mathlib.Core.Bool.{Bool, true, false, cond, _&&_, _||_}
 use mathlib.Core.List.{List, [], _∷_}

@@ -1,5 +1,3 @@
 pub mod Header
 pub mod Reading
-pub mod Replies
-pub mod Writing
 pub mod Examples

@@ -1,4 +1,4 @@
--- Document 01, "Chunks": the reading of a recording, by place. Every definition goes through the words one at a time; `left` is the number of words
+-- FORMAT, "Chunks": the reading of a recording, by place. Every definition goes through the words one at a time; `left` is the number of words
 -- ahead that belong to a chunk which is listed already.
 use Prim.Native.Nat.{ℕ, zero, suc, _+_}
 use mathlib.Core.Bool.{Bool, true, false, cond, _&&_}
@@ -56,10 +56,14 @@ leftAt sync zero (w ∷ ws) (suc p) = leftAt sync (cond (confirmed sync (w ∷ w
 unfoldable pub listedAt : ℕ → List ℕ → ℕ → Bool
 listedAt sync ws p = eqb (leftAt sync 0 ws p) 0 && confirmed sync (drop p ws)
 
+-- what the search tells of a chunk: its entry, and the place past its words, where reading goes on
+abbrev pub chunkAt : ℕ → ℕ → Found
+chunkAt at h = Found.Chunk (entry at h) (record { 0 = at + span h })
+
 -- The search: one word at a time until a chunk is confirmed or no words are left. The first word stands at `at`.
 unfoldable pub found : ℕ → ℕ → List ℕ → Found
 found sync at [] = Found.End
-found sync at (w ∷ ws) = elim (confirmed sync (w ∷ ws)) [ true ↦ Found.Chunk (entry at (getD ws 0 0)) | false ↦ found sync (suc at) ws ]
+found sync at (w ∷ ws) = elim (confirmed sync (w ∷ ws)) [ true ↦ chunkAt at (getD ws 0 0) | false ↦ found sync (suc at) ws ]
 
 -- the next confirmed chunk at or after the place p
 abbrev pub nextFrom : ℕ → List ℕ → ℕ → Found

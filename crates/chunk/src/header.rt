@@ -1,8 +1,8 @@
 // The header: its two words, its fields, and the check whether a chunk is confirmed at a place.
 use crate::Check;
 use base::Words;
+use base::number;
 ghost use mathlib.Core.Path.{_≡_};
-ghost use mathlib.Core.Bool.{cond};
 ghost use lib.ListN.{drop};
 ghost use Rattle.chunk.specs.Header.{size, camera, kind, legalSize, legal, headed, confirmed, checkOf};
 
@@ -40,12 +40,6 @@ pub fn kind_of(header: u16) -> u16
     header / 32768 % 2
 }
 
-fn either(test: bool, yes: bool, no: bool) -> bool
-    ensures { λ r. ⌜ r ≡ cond test yes no ⌝ }
-{
-    if test { yes } else { no }
-}
-
 // Whether a chunk of the kind may have a payload of this size.
 pub fn legal_size(kind: u16, size: Words) -> bool
     ensures { λ r. ⌜ r ≡ legalSize kind (size .0) ⌝ }
@@ -53,7 +47,7 @@ pub fn legal_size(kind: u16, size: Words) -> bool
     let n = size.0;
     let image = (n % UNIT == 0) | (LEAST_UNIT <= n % UNIT);
     let health = n % PACKET == 0;
-    (1 <= n) & (n <= LONGEST) & either(kind == 0, image, health)
+    (1 <= n) & (n <= LONGEST) & number::either(kind == 0, image, health)
 }
 
 pub fn legal_word(header: u16) -> bool

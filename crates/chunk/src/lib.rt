@@ -1,8 +1,6 @@
-// Chunks: the header, the search for the next one, the reading of a recording, and the writer.
+// Chunks: the header, and the search for the next one.
 pub mod header;
-pub mod reading;
 pub mod search;
-pub mod write;
 
 use base::Words;
 
@@ -18,23 +16,8 @@ pub enum Check {
     Confirmed,
 }
 
-// What a search finds: the next chunk, or the end of the recording.
+// What a search finds: the next chunk and the place past it, or the end of the recording.
 pub enum Found {
-    Chunk(Entry),
+    Chunk(Entry, Words),
     End,
-}
-
-// What a survey of a recording answers.
-pub struct Survey {
-    pub refusal: u8,
-    pub chunks: usize,
-    pub skipped: Words,
-}
-
-// What stands in the header of a listed chunk.
-pub struct Heading {
-    pub refusal: u8,
-    pub kind: u16,
-    pub camera: u16,
-    pub size: Words,
 }

@@ -7,7 +7,7 @@ use base::Words;
 ghost use mathlib.Core.Path.{_≡_};
 ghost use Rattle.chunk.specs.Reading.{nextFrom};
 
-// The next confirmed chunk at or after a place. In a stretch of noise each word is looked at once.
+// The next confirmed chunk at or after a place, and the place past it. In a stretch of noise each word is looked at once.
 pub fn next(words: &[u16], sync: u16, from: Words) -> Found
     ensures { λ r. ⌜ r ≡ nextFrom sync (now (words .entry)) (from .0) ⌝ }
 {
@@ -19,10 +19,15 @@ pub fn next(words: &[u16], sync: u16, from: Words) -> Found
         let here = header::check(words, sync, Words(at));
         if let Check::Confirmed = here {
             let second = at + 1;
-            break Found::Chunk(Entry {
-                position: Words(at),
-                header: base::room::word_at(words, Words(second)),
-            });
+            let word = base::room::word_at(words, Words(second));
+            let end = at + header::HEADER + header::size_of(word).0;
+            break Found::Chunk(
+                Entry {
+                    position: Words(at),
+                    header: word,
+                },
+                Words(end),
+            );
         }
         at += 1;
     };

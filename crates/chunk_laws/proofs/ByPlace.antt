@@ -119,7 +119,7 @@ place-listed sync p ws h =
 -- what an entry of the list is: at its place no words of another chunk are left, and a chunk is confirmed
 record Placed (sync at left : ℕ) (ws : List ℕ) (e : Entry) : Type 0 where
   place : ℕ
-  is : e ≡ entry (at + place) (getD (drop place ws) 1 0)
+  named : e ≡ entry (at + place) (getD (drop place ws) 1 0)
   free : leftAt sync left ws place ≡ 0
   there : confirmed sync (drop place ws) ≡ true
 
@@ -130,14 +130,14 @@ placed sync at (suc left) (w ∷ ws) e h =
     let t : Placed sync (suc at) left ws e = placed sync (suc at) left ws e h in
     record {
       place = suc (t .place);
-      is = t .is ∙ ap (λ (n : ℕ). entry n (getD (drop (t .place) ws) 1 0)) (omega arith);
+      named = t .named ∙ ap (λ (n : ℕ). entry n (getD (drop (t .place) ws) 1 0)) (omega arith);
       free = t .free;
       there = t .there;
     }
 placed sync at zero (w ∷ ws) e h =
     by-test (confirmed sync (w ∷ ws))
     (λ c. elim (rw (list-step sync at w ws true c) at h) as (λ x. Placed sync at 0 (w ∷ ws) e) [
-      | inl z ↦ record { place = 0; is = z ∙ ap (λ (n : ℕ). entry n (getD ws 0 0)) (omega arith); free = refl; there = c }
+      | inl z ↦ record { place = 0; named = z ∙ ap (λ (n : ℕ). entry n (getD ws 0 0)) (omega arith); free = refl; there = c }
       | inr z ↦ next true c (placed sync (suc at) _ ws e z)
     ])
     (λ c. next false c (placed sync (suc at) 0 ws e (rw (list-step sync at w ws false c) at h)))
@@ -146,7 +146,7 @@ placed sync at zero (w ∷ ws) e h =
     next b c t =
         record {
           place = suc (t .place);
-          is = t .is ∙ ap (λ (n : ℕ). entry n (getD (drop (t .place) ws) 1 0)) (omega arith);
+          named = t .named ∙ ap (λ (n : ℕ). entry n (getD (drop (t .place) ws) 1 0)) (omega arith);
           free = left-step sync (t .place) w ws b c ∙ t .free;
           there = t .there;
         }
@@ -155,5 +155,5 @@ pub listed-place : (sync : ℕ) (ws : List ℕ) (e : Entry) → e ∈ reading sy
     → (listedAt sync ws (e .position .0) ≡ true) × (e .header ≡ getD (drop (e .position .0) ws) 1 0)
 listed-place sync ws e h =
     let t : Placed sync 0 0 ws e = placed sync 0 0 ws e h in
-    let n : e .position .0 ≡ t .place = ap (λ (x : Entry). x .position .0) (t .is) ∙ zero-add (t .place) in
-    rw n (listed-at-yes sync (t .place) ws (t .free) (t .there), ap (λ (x : Entry). x .header) (t .is))
+    let n : e .position .0 ≡ t .place = ap (λ (x : Entry). x .position .0) (t .named) ∙ zero-add (t .place) in
+    rw n (listed-at-yes sync (t .place) ws (t .free) (t .there), ap (λ (x : Entry). x .header) (t .named))

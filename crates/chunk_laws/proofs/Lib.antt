@@ -1,4 +1,5 @@
 pub mod Tests
+pub mod Accounting
 pub mod ByPlace
 pub mod Rows
 pub mod Stretch

@@ -21,8 +21,8 @@ use Rattle.chunk_laws.specs.Stretch.{Laid, words, offset, wholeRow, clea
 use Rattle.chunk_laws.specs.Resync.{_∈_, from, moved, ReadAsAlone}
 use Rattle.chunk_laws.proofs.Tests.{by-test}
 use Rattle.chunk_laws.proofs.ByPlace.{left-end, reading-from, listed-moved, place-listed, listed-place}
-use Rattle.chunk_laws.proofs.Rows.{fair, ends-step, ends-past, row-first, row-after, row-at, words-parts, row-listed}
-use Rattle.chunk_laws.proofs.Stretch.{legal-least, clean-unbroken, unbroken-row, unbroken-after, not-inside, boundary}
+use Rattle.chunk_laws.proofs.Rows.{whole-legal, ends-step, ends-past, row-first, row-after, row-at, words-parts, row-listed}
+use Rattle.chunk_laws.proofs.Stretch.{clean-unbroken, unbroken-row, unbroken-after, not-inside, ends-at-boundary}
 
 -- ---- a chunk in hand
 
@@ -69,7 +69,7 @@ module _ (sync : ℕ) (a : List ℕ) (cs : List Laid) (k : unbroken sync cs ≡ 
   unfolding leftAt
   ends-at-chunk = elim (held .1) as (λ x. leftAt sync 0 (words sync cs) (lost sync a cs) ≡ 0) [
     | inl z ↦ ap (λ (n : ℕ). leftAt sync 0 (words sync cs) n) z
-    | inr e ↦ boundary sync cs k (lost sync a cs) e
+    | inr e ↦ ends-at-boundary sync cs k (lost sync a cs) e
   ]
 
   -- past the lost words the reading stands at each place as in the stretch alone
@@ -140,7 +140,7 @@ module _ (sync : ℕ) (a : List ℕ) (cs : List Laid) (k : unbroken sync cs ≡ 
       let p : ℕ = offset sync before in
       let s : List ℕ = words sync cs in
       let row : wholeRow (before ++ c ∷ after) ≡ true = rw e at (unbroken-row sync cs k) in
-      let sized : 9 ≤ size (c .header) = legal-least (c .header) (fair c (row-first c after (row-after before (c ∷ after) row))) in
+      let sized : 9 ≤ size (c .header) = legal-bounds (c .header) (whole-legal c (row-first c after (row-after before (c ∷ after) row))) .0 in
       let far : lost sync a cs ≤ p = elim (decLt p (lost sync a cs)) as (λ x. lost sync a cs ≤ p) [
         | yes d ↦ absurd (omega (arith, sized, lost-whole before c after e d, lost-few))
         | no d ↦ omega arith

@@ -21,11 +21,11 @@ use Rattle.chunk_laws.proofs.ByPlace.{list-step, skip-step, left-step, 
 
 -- ---- what a whole chunk has
 
-pub fair : (c : Laid) → whole c ≡ true → legal (c .header) ≡ true
-fair c k = and-left (legal (c .header)) _ k
+pub whole-legal : (c : Laid) → whole c ≡ true → legal (c .header) ≡ true
+whole-legal c k = and-left (legal (c .header)) _ k
 
-pub long : (c : Laid) → whole c ≡ true → length (c .payload) ≡ size (c .header)
-long c k = eqb-true (length (c .payload)) (size (c .header)) (and-right (legal (c .header)) _ k)
+pub whole-length : (c : Laid) → whole c ≡ true → length (c .payload) ≡ size (c .header)
+whole-length c k = eqb-true (length (c .payload)) (size (c .header)) (and-right (legal (c .header)) _ k)
 
 pub row-first : (c : Laid) (cs : List Laid) → wholeRow (c ∷ cs) ≡ true → whole c ≡ true
 unfolding wholeRow
@@ -48,7 +48,7 @@ ends-past sync k (x ∷ xs) ws = rw (suc-add (length xs) k, ends-step) (ends-pas
 -- a legal header stands where a whole chunk does
 pub headed-here : (sync : ℕ) (c : Laid) (ws : List ℕ) → whole c ≡ true → headed sync (sync ∷ c .header ∷ ws) ≡ true
 unfolding headed
-headed-here sync c ws k = and-both (eqb sync sync) _ (eq-eqb sync sync refl) (fair c k)
+headed-here sync c ws k = and-both (eqb sync sync) _ (eq-eqb sync sync refl) (whole-legal c k)
 
 -- what stands where a chunk of the row ends: the recording's end, or the next chunk's header
 ends-here : (sync : ℕ) (cs : List Laid) → wholeRow cs ≡ true → ends sync 0 (words sync cs) ≡ true
@@ -61,16 +61,16 @@ unfolding confirmed
 row-confirmed sync c cs k =
     let ws : List ℕ = words sync cs in
     let t : whole c ≡ true = row-first c cs k in
-    let n : span (c .header) ≡ length (sync ∷ c .header ∷ c .payload) + 0 = omega (arith, long c t) in
+    let n : span (c .header) ≡ length (sync ∷ c .header ∷ c .payload) + 0 = omega (arith, whole-length c t) in
     and-both (headed sync (words sync (c ∷ cs))) _ (headed-here sync c (c .payload ++ ws) t)
     (ap (λ (m : ℕ). ends sync m (words sync (c ∷ cs))) n ∙ ends-past sync 0 (sync ∷ c .header ∷ c .payload) ws ∙ ends-here sync cs (row-rest c cs k))
 
 -- the words after the first chunk
 pub row-drop : (sync : ℕ) (c : Laid) (cs : List Laid) → whole c ≡ true → drop (size (c .header)) (c .payload ++ words sync cs) ≡ words sync cs
-row-drop sync c cs k = drop-at (c .payload) (words sync cs) (size (c .header)) (long c k)
+row-drop sync c cs k = drop-at (c .payload) (words sync cs) (size (c .header)) (whole-length c k)
 
 within-row : (sync : ℕ) (c : Laid) (cs : List Laid) → whole c ≡ true → size (c .header) ≤ length (c .payload ++ words sync cs)
-within-row sync c cs k = omega (arith, length-append (c .payload) (words sync cs), long c k)
+within-row sync c cs k = omega (arith, length-append (c .payload) (words sync cs), whole-length c k)
 
 -- ---- the row is listed whole
 
@@ -111,7 +111,7 @@ row-after (c ∷ before) after k = row-after before after (row-rest c (before ++
 
 -- the payload of a chunk, as the words from its place on have it
 pub payload-there : (sync : ℕ) (c : Laid) (cs : List Laid) → whole c ≡ true → take (size (c .header)) (drop 2 (words sync (c ∷ cs))) ≡ c .payload
-payload-there sync c cs k = take-at (c .payload) (words sync cs) (size (c .header)) (long c k)
+payload-there sync c cs k = take-at (c .payload) (words sync cs) (size (c .header)) (whole-length c k)
 
 -- ---- the state of the reading in a row: no words are left where a chunk begins, and there one is listed
 
@@ -124,7 +124,7 @@ left-rest sync c cs t k =
     ∙ rw (left-step sync n sync inner true (row-confirmed sync c cs t) ∙ left-end sync n inner, row-drop sync c cs (row-first c cs t))
 
 offset-cons : (sync : ℕ) (c : Laid) (cs : List Laid) → whole c ≡ true → offset sync (c ∷ cs) ≡ span (c .header) + offset sync cs
-offset-cons sync c cs k = omega (arith, length-append (c .payload) (words sync cs), long c k)
+offset-cons sync c cs k = omega (arith, length-append (c .payload) (words sync cs), whole-length c k)
 
 left-row : (sync : ℕ) (before after : List Laid) → wholeRow (before ++ after) ≡ true
     → leftAt sync 0 (words sync (before ++ after)) (offset sync before) ≡ 0

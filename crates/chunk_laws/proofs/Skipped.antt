@@ -37,13 +37,13 @@ at-covered f at n e = rw e (zero-add (failing f (suc at) n))
 at-missed : (f : ℕ → Bool) (at n : ℕ) → f at ≡ false → failing f at (suc n) ≡ suc (failing f (suc at) n)
 at-missed f at n e = rw e (one-add (failing f (suc at) n))
 
-count : (f : ℕ → Bool) (sync at left : ℕ) (ws : List ℕ) → Covers f sync at left ws → failing f at (length ws) ≡ skippedFrom sync left ws
+count-failing : (f : ℕ → Bool) (sync at left : ℕ) (ws : List ℕ) → Covers f sync at left ws → failing f at (length ws) ≡ skippedFrom sync left ws
 unfolding listed skippedFrom covered
-count f sync at left [] k = refl
-count f sync at (suc left) (w ∷ ws) k =
+count-failing f sync at left [] k = refl
+count-failing f sync at (suc left) (w ∷ ws) k =
     at-covered f at (length ws) (k at (omega arith) ∙ rw (lt-ltb at (at + suc left) (omega arith)))
-    ∙ count f sync (suc at) left ws (λ p h. k p (omega arith) ∙ ap (λ (n : ℕ). ltb p n || covered (listed sync (suc at) left ws) p) (omega arith))
-count f sync at zero (w ∷ ws) k =
+    ∙ count-failing f sync (suc at) left ws (λ p h. k p (omega arith) ∙ ap (λ (n : ℕ). ltb p n || covered (listed sync (suc at) left ws) p) (omega arith))
+count-failing f sync at zero (w ∷ ws) k =
     let past : (p : ℕ) → at ≤ p → f p ≡ covered (listed sync at 0 (w ∷ ws)) p = λ p h. k p h ∙ rw (le-ltb p (at + 0) (omega arith)) in
     let h : ℕ = getD ws 0 0 in
     let n : at + span h ≡ suc at + suc (size h) = omega arith in
@@ -51,12 +51,12 @@ count f sync at zero (w ∷ ws) k =
     (λ e.
     at-covered f at (length ws)
     (past at (omega arith) ∙ rw (list-step sync at w ws true e, le-leb at at (omega arith), lt-ltb at (at + span h) (omega arith)))
-    ∙ count f sync (suc at) (suc (size h)) ws (λ p l. past p (omega arith) ∙ rw (list-step sync at w ws true e, le-leb at p (omega arith), n))
+    ∙ count-failing f sync (suc at) (suc (size h)) ws (λ p l. past p (omega arith) ∙ rw (list-step sync at w ws true e, le-leb at p (omega arith), n))
     ∙ sym (skip-step sync w ws true e))
     (λ e.
     at-missed f at (length ws) (past at (omega arith) ∙ rw (list-step sync at w ws false e) (none-before sync at (suc at) 0 ws (omega arith)))
-    ∙ ap suc (count f sync (suc at) 0 ws (λ p l. past p (omega arith) ∙ rw (list-step sync at w ws false e, le-ltb p (suc at + 0) (omega arith))))
+    ∙ ap suc (count-failing f sync (suc at) 0 ws (λ p l. past p (omega arith) ∙ rw (list-step sync at w ws false e, le-ltb p (suc at + 0) (omega arith))))
     ∙ sym (skip-step sync w ws false e))
 
 pub skipped-outside : (sync : ℕ) (ws : List ℕ) → outside (reading sync ws) (length ws) ≡ skipped sync ws
-skipped-outside sync ws = count (covered (reading sync ws)) sync 0 0 ws (λ p h. rw (le-ltb p 0 (omega arith)))
+skipped-outside sync ws = count-failing (covered (reading sync ws)) sync 0 0 ws (λ p h. rw (le-ltb p 0 (omega arith)))

@@ -1,40 +1,25 @@
 -- A stretch in whose chunks no legal header begins: a chunk that ends in it ends where one of its own begins or with the stretch, and there no words
 -- are left of a chunk when the stretch is read alone. A clean stretch is such a one.
 use mathlib.Core.Path.{_≡_, refl, sym, ap, _∙_}
-use mathlib.Core.Bool.{Bool, true, false, cond, not, _&&_, false≢true}
+use mathlib.Core.Bool.{Bool, true, false, not, _&&_, false≢true}
 use mathlib.Core.List.{List, [], _∷_, _++_}
 use mathlib.Core.Logic.{inl, inr}
-use Prim.Native.Nat.{ℕ, zero, suc, _+_, _-_, _≤_, _<_, _%_}
+use Prim.Native.Nat.{ℕ, zero, suc, _+_, _-_, _<_}
 use native.Mathlib.Omega.{arith}
 use native.Mathlib.Numerals.{one-add}
 use native.Mathlib.Decide.{decLt}
 use lib.ListN.{length, drop, length-append}
 use lib.Seq.{drop-drop}
-use lib.Dec.{leb, eqb}
-use borrow.Author.Tests.{eqb-true, leb-true, not-true}
+use lib.Dec.{eqb}
+use borrow.Author.Tests.{eqb-true, not-true}
 use Rattle.base.proofs.Booleans.{and-left, and-right, or-cases}
-use Rattle.chunk.specs.Header.{size, span, kind, imageSize, healthSize, legalSize, legal, headed, ends}
+use Rattle.chunk.specs.Header.{size, span, legal, headed, ends}
 use Rattle.chunk.specs.Reading.{reading, leftAt}
-use Rattle.chunk.proofs.Headers.{legal-bounds}
 use Rattle.chunk_laws.specs.Stretch.{Laid, words, offset, entries, whole, wholeRow, lacks, clean, headless, unbroken}
 use Rattle.chunk_laws.proofs.Tests.{and-both}
-use Rattle.chunk_laws.proofs.Rows.{long, ends-past, lists-row, left-rest}
+use Rattle.chunk_laws.proofs.Rows.{whole-length, ends-past, lists-row, left-rest}
 
 -- ---- legal headers
-
--- a payload has 9 words at the least
-pub legal-least : (h : ℕ) → legal h ≡ true → 9 ≤ size h
-unfolding legal legalSize
-legal-least h e =
-    by-kind (eqb (kind h) 0) (and-right (leb 1 (size h) && leb (size h) 8190) _ (and-left (legalSize (kind h) (size h)) _ e)) (legal-bounds h e .0)
-  where
-    by-kind : (b : Bool) → cond b (imageSize (size h)) (healthSize (size h)) ≡ true → 1 ≤ size h → 9 ≤ size h
-    by-kind true c some =
-        elim (or-cases (eqb (size h % 264) 0) (leb 9 (size h % 264)) c) as (λ x. 9 ≤ size h) [
-          | inl z ↦ omega (arith, eqb-true (size h % 264) 0 z)
-          | inr z ↦ omega (arith, leb-true 9 (size h % 264) z)
-        ]
-    by-kind false c some = omega (arith, eqb-true (size h % 32) 0 c)
 
 headed-sync : (sync w : ℕ) (ws : List ℕ) → eqb w sync ≡ false → headed sync (w ∷ ws) ≡ false
 unfolding headed
@@ -96,7 +81,7 @@ pub not-inside : (sync : ℕ) (c : Laid) (cs : List Laid) → unbroken sync (c �
 unfolding unbroken ends
 not-inside sync c cs k zero some few e = absurd (omega arith)
 not-inside sync c cs k (suc i) some few e =
-    let n : length (c .payload) ≡ size (c .header) = long c (first-whole sync c cs k) in
+    let n : length (c .payload) ≡ size (c .header) = whole-length c (first-whole sync c cs k) in
     let inner : List ℕ = c .header ∷ (c .payload ++ words sync cs) in
     let free : headless sync (suc (length (c .payload))) inner ≡ true = and-right (whole c) _ (and-left (whole c && _) _ k) in
     elim (or-cases (eqb (suc i) (offset sync (c ∷ cs))) (headed sync (drop i inner)) e) as (λ x. ⊥) [
@@ -108,16 +93,16 @@ not-inside sync c cs k (suc i) some few e =
 ends-rest : (sync : ℕ) (c : Laid) (cs : List Laid) → whole c ≡ true → (k : ℕ)
     → ends sync (span (c .header) + k) (words sync (c ∷ cs)) ≡ ends sync k (words sync cs)
 ends-rest sync c cs t k =
-    ap (λ (n : ℕ). ends sync n (words sync (c ∷ cs))) (omega (arith, long c t)) ∙ ends-past sync k (sync ∷ c .header ∷ c .payload) (words sync cs)
+    ap (λ (n : ℕ). ends sync n (words sync (c ∷ cs))) (omega (arith, whole-length c t)) ∙ ends-past sync k (sync ∷ c .header ∷ c .payload) (words sync cs)
 
 -- where a chunk ends in the stretch, no words are left of one that is listed when the stretch is read alone
-pub boundary : (sync : ℕ) (cs : List Laid) → unbroken sync cs ≡ true → (n : ℕ) → ends sync n (words sync cs) ≡ true
+pub ends-at-boundary : (sync : ℕ) (cs : List Laid) → unbroken sync cs ≡ true → (n : ℕ) → ends sync n (words sync cs) ≡ true
     → leftAt sync 0 (words sync cs) n ≡ 0
 unfolding leftAt
-boundary sync [] k zero e = refl
-boundary sync [] k (suc n) e = refl
-boundary sync (c ∷ cs) k zero e = refl
-boundary sync (c ∷ cs) k (suc i) e =
+ends-at-boundary sync [] k zero e = refl
+ends-at-boundary sync [] k (suc n) e = refl
+ends-at-boundary sync (c ∷ cs) k zero e = refl
+ends-at-boundary sync (c ∷ cs) k (suc i) e =
     elim (decLt (suc i) (span (c .header))) as (λ x. leftAt sync 0 (words sync (c ∷ cs)) (suc i) ≡ 0) [
       | yes h ↦ absurd (not-inside sync c cs k (suc i) (omega arith) h e)
       | no h ↦
@@ -125,5 +110,5 @@ boundary sync (c ∷ cs) k (suc i) e =
           let n : suc i ≡ span (c .header) + m = omega arith in
           let e′ : ends sync m (words sync cs) ≡ true = sym (ends-rest sync c cs (first-whole sync c cs k) m) ∙ (rw n at e) in
           ap (λ (x : ℕ). leftAt sync 0 (words sync (c ∷ cs)) x) n
-          ∙ left-rest sync c cs (unbroken-row sync (c ∷ cs) k) m ∙ boundary sync cs (rest-unbroken sync c cs k) m e′
+          ∙ left-rest sync c cs (unbroken-row sync (c ∷ cs) k) m ∙ ends-at-boundary sync cs (rest-unbroken sync c cs k) m e′
     ]

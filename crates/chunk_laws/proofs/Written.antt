@@ -3,27 +3,27 @@
 use mathlib.Core.Path.{_≡_, refl, sym, ap, _∙_}
 use mathlib.Core.Bool.{true, _&&_, _||_}
 use mathlib.Core.List.{List, [], _∷_, _++_, append-nil}
-use mathlib.Core.Logic.{inl, inr}
 use Prim.Native.Nat.{ℕ, _+_, _≤_}
 use native.Mathlib.Omega.{arith}
 use lib.ListN.{length, getD, drop, take, length-append}
 use lib.Seq.{drop-drop}
-use lib.Dec.{leb, eqb}
-use borrow.Author.Tests.{eqb-true, eq-eqb, leb-true, not-false, le-ltb}
-use Rattle.base.proofs.Booleans.{and-left, and-right, or-cases}
+use lib.Dec.{eqb}
+use borrow.Author.Tests.{eq-eqb, not-false, le-ltb}
+use Rattle.base.proofs.Booleans.{and-left, and-right}
 use Rattle.base.specs.Limit.{recordingLimit}
 use Rattle.base.specs.Refusal.{verdict}
 use Rattle.base.proofs.Refused.{spared, answer-yes}
 use Rattle.chunk.specs.Header.{size, camera, kind, span, legalSize, legal}
 use Rattle.chunk.specs.Reading.{entry}
-use Rattle.chunk.specs.Replies.{atCauses, heading, headingOf, atReply, payloadReply}
-use Rattle.chunk.specs.Writing.{writable, writeCauses, headerWord}
 use Rattle.chunk.proofs.Headers.{legal-size}
+use Rattle.chunk_reading.specs.Place.{atCauses, heading, refused, headingOf, atReply, payloadReply}
+use Rattle.chunk_writing.specs.Writing.{writable, writeCauses, headerWord}
+use Rattle.chunk_writing.proofs.Wrote.{writable-bounds}
 use Rattle.chunk_laws.specs.Stretch.{Laid, words, offset, whole, wholeRow}
 use Rattle.chunk_laws.specs.Written.{accepted, written, Holds, Alone, Followed}
-use Rattle.chunk_laws.proofs.Tests.{and-both, or-right}
+use Rattle.chunk_laws.proofs.Tests.{and-both}
 use Rattle.chunk_laws.proofs.ByPlace.{place-listed, listed-place}
-use Rattle.chunk_laws.proofs.Rows.{long, row-first, row-after, row-at, row-listed, payload-there, lists-row, skips-none}
+use Rattle.chunk_laws.proofs.Rows.{whole-length, row-first, row-after, row-at, row-listed, payload-there, lists-row, skips-none}
 
 -- a row of whole chunks gives each of them back, where it stands
 pub row-holds : (sync : ℕ) (before : List Laid) (c : Laid) (after : List Laid) → wholeRow (before ++ c ∷ after) ≡ true
@@ -37,7 +37,7 @@ row-holds sync before c after k =
       there = rw here at (place-listed sync p ws (row-listed sync before c after k));
       ofKind = refl;
       ofCamera = refl;
-      ofSize = sym (long c (row-first c after (row-after before (c ∷ after) k)));
+      ofSize = sym (whole-length c (row-first c after (row-after before (c ∷ after) k)));
       carries =
           ap (take (size (c .header))) (sym (drop-drop 2 p ws) ∙ ap (drop 2) here)
           ∙ payload-there sync c after (row-first c after (row-after before (c ∷ after) k));
@@ -47,13 +47,7 @@ row-holds sync before c after k =
 
 module _ (k c : ℕ) (payload : List ℕ) (w : accepted k c payload ≡ true) where
   fits : (k ≤ 1) × (c ≤ 3) × (eqb k 0 || eqb c 0 ≡ true)
-  fits =
-      elim (or-cases (eqb k 0 && leb c 3) (eqb k 1 && eqb c 0) (and-left (writable k c) _ w)) as (λ x. (k ≤ 1) × (c ≤ 3) × (eqb k 0 || eqb c 0 ≡ true)) [
-        | inl t ↦ let z : eqb k 0 ≡ true = and-left (eqb k 0) _ t in (omega (arith, eqb-true k 0 z), leb-true c 3 (and-right (eqb k 0) _ t), rw z)
-        | inr t ↦
-            let z : eqb c 0 ≡ true = and-right (eqb k 1) _ t in
-            (omega (arith, eqb-true k 1 (and-left (eqb k 1) _ t)), omega (arith, eqb-true c 0 z), or-right (eqb k 0) _ z)
-      ]
+  fits = writable-bounds k c (and-left (writable k c) _ w)
 
   legal-length : legalSize k (length payload) ≡ true
   legal-length = and-right (writable k c) _ w
@@ -122,7 +116,7 @@ given-back sync p k c ws payload l h =
     let z : verdict (atCauses sync ws p) ≡ 0 = rw (le-ltb recordingLimit (length ws) l, t .0) in
     let w : ℕ = getD (drop p ws) 1 0 in
     let e : w ≡ h .header = sym (t .1) in (
-      answer-yes (verdict (atCauses sync ws p)) (λ v. heading v 0 0 0) (headingOf w) z ∙ rw (e, h .ofKind, h .ofCamera, h .ofSize),
+      answer-yes (verdict (atCauses sync ws p)) refused (headingOf w) z ∙ rw (e, h .ofKind, h .ofCamera, h .ofSize),
       answer-yes (verdict (atCauses sync ws p)) (λ v. []) (take (size w) (drop 2 (drop p ws))) z
           ∙ rw (e, drop-drop 2 p ws) (h .carries),
     )

@@ -1,4 +1,4 @@
--- Document 01, "Chunks": words inside no listed chunk are skipped. The same count, read off the list.
+-- FORMAT, "Chunks": words inside no listed chunk are skipped. The same count, read off the list.
 use Prim.Native.Nat.{ℕ, zero, suc, _+_}
 use mathlib.Core.Bool.{Bool, false, cond, _&&_, _||_}
 use mathlib.Core.List.{List, [], _∷_}

@@ -1,4 +1,4 @@
--- Document 01, "Chunks": what the writer takes, and what it means that a recording gives a chunk back as it was written.
+-- FORMAT, "Chunks": what the writer takes, and what it means that a recording gives a chunk back as it was written.
 use Prim.Native.Nat.{ℕ, _+_}
 use mathlib.Core.Path.{_≡_}
 use mathlib.Core.Bool.{Bool, _&&_}
@@ -6,7 +6,7 @@ use mathlib.Core.List.{List, [], _∷_, _++_}
 use lib.ListN.{length, take, drop}
 use Rattle.chunk.specs.Header.{size, camera, kind, legalSize}
 use Rattle.chunk.specs.Reading.{entry, reading, skipped}
-use Rattle.chunk.specs.Writing.{writable, headerWord, chunkOf}
+use Rattle.chunk_writing.specs.Writing.{writable, headerWord, chunkOf}
 use Rattle.chunk_laws.specs.Stretch.{Laid}
 use Rattle.chunk_laws.specs.Resync.{_∈_}
 

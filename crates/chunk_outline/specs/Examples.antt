@@ -1,4 +1,4 @@
--- The recording of document 01's listing has one run of each kind; a skipped word cuts a run; the causes stand in the paper's order.
+-- The recording of FORMAT, "Listing program", has one run of each kind; a skipped word cuts a run; the causes stand in the order of "Refusal numbers".
 use Prim.Native.Nat.{ℕ}
 use mathlib.Core.Path.{_≡_, refl}
 use mathlib.Core.Bool.{true}

@@ -1,4 +1,4 @@
--- Document 01, "Chunks": runs of image chunks and of health chunks.
+-- FORMAT, "Chunks": runs of image chunks and of health chunks.
 use Prim.Native.Nat.{ℕ, _+_}
 use mathlib.Core.Path.{_≡_}
 use mathlib.Core.Bool.{Bool, true, false, cond, _&&_}
@@ -32,7 +32,7 @@ unfoldable pub countKind : ℕ → List (List Entry) → ℕ
 countKind k [] = 0
 countKind k (row ∷ rows) = cond (ofKind k row) 1 0 + countKind k rows
 
--- ---- The paper's own words, of any way to part a list of chunks. `proofs/Longest` has that the runs are one such way, and the only one.
+-- ---- The rule's own words, of any way to part a list of chunks. `proofs/Longest` has that the runs are one such way, and the only one.
 
 -- a row: each chunk follows the one before it
 abbrev pub Row : List Entry → Type 0

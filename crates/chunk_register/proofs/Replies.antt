@@ -5,48 +5,48 @@ use mathlib.Core.List.{List}
 use Prim.Native.Nat.{ℕ, _≤_, _<_}
 use native.Mathlib.Omega.{arith}
 use lib.ListN.{length}
-use lib.Dec.{ltb, eqb}
+use lib.Dec.{eqb}
 use borrow.Author.Tests.{eqb-true, ltb-false, lt-ltb, le-ltb}
-use Rattle.base.specs.Limit.{recordingLimit}
-use Rattle.base.specs.Refusal.{verdict, answer}
+use Rattle.base.specs.Limit.{tooLong}
+use Rattle.base.specs.Refusal.{noRoom, verdict, answer}
 use Rattle.base.proofs.Refused.{spared}
 use Rattle.chunk.specs.declared.Entry.{Entry}
-use Rattle.chunk.specs.declared.Survey.{Survey}
 use Rattle.chunk.specs.Reading.{reading}
-use Rattle.chunk.specs.Replies.{surveyed, countReply, surveyReply}
+use Rattle.chunk_reading.specs.declared.Survey.{Survey}
+use Rattle.chunk_reading.specs.Counting.{refused, countReply, surveyReply}
 use Rattle.chunk_register.specs.Register.{listCauses, listReply, entered, listRoom}
 
 module _ (sync : ℕ) (ws : List ℕ) where
   -- what holds of a refusal, whatever its number, and of the full list holds
-  pub by-cases : (register : List Entry) (P : Survey → List Entry → Type 0)
-      → ((v : ℕ) → P (surveyed v 0 0) register)
+  pub refused-or-listed : (register : List Entry) (P : Survey → List Entry → Type 0)
+      → ((v : ℕ) → P (refused v) register)
       → (length (reading sync ws) ≤ length register → P (countReply sync ws) (entered (reading sync ws) register))
       → P (listReply sync ws (length register)) (listRoom sync ws register)
   unfolding listReply listRoom answer
-  by-cases register P refused listed = go (eqb number 0) refl
+  refused-or-listed register P none all = go (eqb number 0) refl
     where
       number : ℕ
       number = verdict (listCauses sync ws (length register))
 
       go : (b : Bool) → eqb number 0 ≡ b
-          → P (cond b (countReply sync ws) (surveyed number 0 0)) (cond b (entered (reading sync ws) register) register)
-      go true e = listed (ltb-false _ _ (spared (listCauses sync ws (length register)) refl (eqb-true number 0 e) .1 .0))
-      go false e = refused number
+          → P (cond b (countReply sync ws) (refused number)) (cond b (entered (reading sync ws) register) register)
+      go true e = all (ltb-false _ _ (spared (listCauses sync ws (length register)) refl (eqb-true number 0 e) .1 .0))
+      go false e = none number
 
   module _ (entries : ℕ) where
     -- the survey of a recording that is too long counts no chunks
-    pub full : entries < surveyReply sync ws .chunks → surveyed 3 0 0 ≡ listReply sync ws entries
+    pub too-few-refused : entries < surveyReply sync ws .chunks → refused noRoom ≡ listReply sync ws entries
     unfolding listReply answer
-    full h = go (ltb recordingLimit (length ws)) refl
+    too-few-refused h = go (tooLong ws) refl
       where
-        go : (b : Bool) → ltb recordingLimit (length ws) ≡ b → surveyed 3 0 0 ≡ listReply sync ws entries
+        go : (b : Bool) → tooLong ws ≡ b → refused noRoom ≡ listReply sync ws entries
         go true e = let z : entries < 0 = rw e at h in absurd (omega arith)
         go false e = rw (e, lt-ltb entries (length (reading sync ws)) (rw e at h))
 
-    pub enough : surveyReply sync ws .chunks ≤ entries → surveyReply sync ws ≡ listReply sync ws entries
+    pub enough-surveyed : surveyReply sync ws .chunks ≤ entries → surveyReply sync ws ≡ listReply sync ws entries
     unfolding listReply answer
-    enough h = go (ltb recordingLimit (length ws)) refl
+    enough-surveyed h = go (tooLong ws) refl
       where
-        go : (b : Bool) → ltb recordingLimit (length ws) ≡ b → surveyReply sync ws ≡ listReply sync ws entries
+        go : (b : Bool) → tooLong ws ≡ b → surveyReply sync ws ≡ listReply sync ws entries
         go true e = rw e
         go false e = rw (e, le-ltb entries (length (reading sync ws)) (rw e at h))

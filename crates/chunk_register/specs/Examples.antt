@@ -1,4 +1,4 @@
--- The recording of document 01's listing in a register of three entries, and in one that is too small; the causes stand in the paper's order.
+-- The recording of FORMAT, "Listing program", in a register of three entries, and in one that is too small; the causes stand in the order of "Refusal numbers".
 use Prim.Native.Nat.{ℕ}
 use mathlib.Core.Path.{_≡_, refl}
 use mathlib.Core.Bool.{true}
@@ -7,7 +7,7 @@ use Rattle.base.specs.Refusal.{followsPaper, answer}
 use Rattle.chunk.specs.declared.Entry.{Entry}
 use Rattle.chunk.specs.Header.{legalSize, legal, headed, ends, confirmed}
 use Rattle.chunk.specs.Reading.{entry, listed, skippedFrom}
-use Rattle.chunk.specs.Replies.{surveyed}
+use Rattle.chunk_reading.specs.Counting.{surveyed}
 use Rattle.chunk.specs.Examples.{listing}
 use Rattle.chunk_register.specs.Register.{listCauses, listReply, listRoom}
 

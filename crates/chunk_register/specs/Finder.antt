@@ -1,14 +1,13 @@
 -- For the contract of the finder, which is not public: one step of the reading.
-use Prim.Native.Nat.{ℕ, _+_}
+use Prim.Native.Nat.{ℕ}
 use mathlib.Core.List.{List}
 use Rattle.chunk.specs.declared.Found.{Found}
-use Rattle.chunk.specs.Header.{span}
 use Rattle.chunk.specs.Reading.{entry, nextFrom}
 use Rattle.chunk_register.specs.declared.finder.Step.{Step}
 
 -- the entry that was found and the place past its chunk; zeros where none was
 unfoldable pub stepTo : Found → Step
-stepTo (Found.Chunk e) = record { entry = e; end = e .position .0 + span (e .header) }
+stepTo (Found.Chunk e next) = record { entry = e; end = next .0 }
 stepTo Found.End = record { entry = entry 0 0; end = 0 }
 
 -- the next chunk at or after a place

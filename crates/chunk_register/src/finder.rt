@@ -3,10 +3,9 @@ use base::Words;
 use base::refusal;
 use chunk::Entry;
 use chunk::Found;
-use chunk::Survey;
-use chunk::header;
-use chunk::reading;
 use chunk::search;
+use chunk_reading::Survey;
+use chunk_reading::counting;
 ghost use mathlib.Core.Path.{_≡_};
 ghost use Rattle.chunk_register.specs.Register.{listReply};
 ghost use Rattle.chunk_register.specs.Finder.{stepFrom};
@@ -21,13 +20,9 @@ pub struct Step {
 pub fn look(recording: &[u16], sync: u16, entries: usize) -> Survey
     ensures { λ r. ⌜ r ≡ listReply sync (now (recording .entry)) entries ⌝ }
 {
-    let survey = reading::survey(recording, sync);
+    let survey = counting::survey(recording, sync);
     if entries < survey.chunks {
-        return Survey {
-            refusal: refusal::ROOM,
-            chunks: 0,
-            skipped: Words(0),
-        };
+        return counting::refused(refusal::ROOM);
     }
     survey
 }
@@ -37,7 +32,7 @@ pub fn step_from(recording: &[u16], sync: u16, at: usize) -> Step
     ensures { λ r. ⌜ r ≡ stepFrom sync (now (recording .entry)) at ⌝ }
 {
     let found = search::next(recording, sync, Words(at));
-    let Found::Chunk(entry) = found else {
+    let Found::Chunk(entry, next) = found else {
         return Step {
             entry: Entry {
                 position: Words(0),
@@ -46,9 +41,8 @@ pub fn step_from(recording: &[u16], sync: u16, at: usize) -> Step
             end: 0,
         };
     };
-    let begins = entry.position.0;
     Step {
         entry: entry,
-        end: begins + header::HEADER + header::size_of(entry.header).0,
+        end: next.0,
     }
 }

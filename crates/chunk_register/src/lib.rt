@@ -2,7 +2,7 @@
 mod finder;
 
 use chunk::Entry;
-use chunk::Survey;
+use chunk_reading::Survey;
 ghost use mathlib.Core.Path.{_≡_};
 ghost use lib.ListN.{length};
 ghost use Rattle.chunk_register.specs.Register.{listReply, listRoom};

@@ -1,8 +1,3 @@
 pub mod Joining
-pub mod UnitWords
+pub mod Chunks
 pub mod Walking
-pub mod Stepping
-pub mod Filling
-pub mod Units
-pub mod Rows
-pub mod Asking

@@ -2,157 +2,156 @@
 use mathlib.Core.Path.{_≡_, sym, ap, _∙_}
 use mathlib.Core.Bool.{Bool, true, false, _&&_}
 use mathlib.Core.List.{List, [], _∷_}
-use Prim.Native.Nat.{ℕ, suc, _+_, _-_, _*_, _/_, _≤_, _<_}
+use Prim.Native.Nat.{ℕ, suc, _+_, _-_, _%_, _≤_, _<_}
 use native.Mathlib.Omega.{arith}
 use native.Mathlib.Nat.{zero-add}
 use native.Mathlib.Numerals.{add-one}
 use lib.ListN.{length, getD, take, drop}
 use lib.Seq.{getD-drop, drop-drop}
-use lib.Dec.{eqb, leb}
+use lib.Dec.{eqb}
 use Rattle.base.proofs.RoomLaws.{to-end}
 use Rattle.base.proofs.Booleans.{and-left, and-right}
 use Rattle.chunk.specs.declared.Entry.{Entry}
-use Rattle.chunk.specs.Header.{size, camera, kind, span, imageSize, confirmed}
+use Rattle.chunk.specs.Header.{size, span, confirmed}
 use Rattle.chunk.specs.Reading.{entry, reading, listedWords}
 use Rattle.chunk.proofs.Steps.{hit-within}
+use Rattle.parity_units.specs.Split.{dataWords, dataWordsIn}
 use Rattle.frame.specs.declared.shape.Reach.{Reach}
-use Rattle.frame.specs.Shape.{starts, continues, whole, joining, frameOf, startsFrame, frameChunks, frameWords, frameCamera, joinsFrame, closes, closesFrame, complete}
-use Rattle.frame.specs.Picture.{unitsOf, dataWords, frameLength}
-use Rattle.frame.specs.Replies.{frame, reachOf, described}
+use Rattle.frame.specs.Shape.{starts, continues, whole, joining, frameOf, frameChunks, frameWords, frameCamera, closes, complete}
+use Rattle.frame.specs.Picture.{unitsOf, frameLength}
+use Rattle.frame.specs.Described.{frame, described}
+use Rattle.frame.specs.Walk.{startsFrame, joinsFrame, closesFrame, reachOf}
 use Rattle.frame.proofs.Joining.{listedFrom, confirmed-there, next-here, joining-step, joining-stop, closes-at, Rest, rest}
-use Rattle.frame.proofs.UnitWords.{image-size, data-more}
+use Rattle.frame.proofs.Chunks.{data-more}
 
--- what joins after the chunk `last`, which ends at `end`
+-- what joins after a chunk with a payload of n words, which ends at `end`
 abbrev pub ahead : ℕ → List ℕ → ℕ → ℕ → List Entry
-ahead sync ws last end = joining end (whole last) (listedFrom sync ws end)
+ahead sync ws n end = joining end (eqb (n % 264) 0) (listedFrom sync ws end)
 
-pub record Walked (sync : ℕ) (ws : List ℕ) (last chunks end sum : ℕ) : Type 0 where
+pub record Walked (sync : ℕ) (ws : List ℕ) (n chunks end sum : ℕ) : Type 0 where
   pub within : end ≤ length ws
   pub few : chunks ≤ end
   pub short : sum ≤ end
-  pub count : chunks + length (ahead sync ws last end) ≡ length (frameChunks sync ws)
-  pub words : end + listedWords (ahead sync ws last end) ≡ frameWords sync ws
-  pub units : sum + dataWords (unitsOf ws (ahead sync ws last end)) ≡ frameLength sync ws
+  pub count : chunks + length (ahead sync ws n end) ≡ length (frameChunks sync ws)
+  pub words : end + listedWords (ahead sync ws n end) ≡ frameWords sync ws
+  pub units : sum + dataWords (unitsOf ws (ahead sync ws n end)) ≡ frameLength sync ws
 
 module _ (sync : ℕ) (ws : List ℕ) (s : startsFrame sync ws ≡ true) where
   abbrev first : ℕ
   first = getD ws 1 0
 
-  begun : confirmed sync ws ≡ true
-  begun = and-left (confirmed sync ws) (starts first) s
+  first-confirmed : confirmed sync ws ≡ true
+  first-confirmed = and-left (confirmed sync ws) (starts first) s
 
-  inside : (0 + span first ≤ length ws) × (1 ≤ size first) × (size first ≤ 8184)
-  inside = hit-within sync ws 0 (confirmed-there sync ws 0 begun) begun
+  first-within : (0 + span first ≤ length ws) × (1 ≤ size first) × (size first ≤ 8184)
+  first-within = hit-within sync ws 0 (confirmed-there sync ws 0 first-confirmed) first-confirmed
 
   -- two words at the least
-  pub long : 2 < length ws
-  long = omega (arith, inside .0, inside .1)
+  pub longer-than-header : 2 < length ws
+  longer-than-header = omega (arith, first-within .0, first-within .1)
 
   -- the frame is its first chunk and what joins after it
-  pub frame-is : frameChunks sync ws ≡ entry 0 first ∷ ahead sync ws first (span first)
+  pub first-and-ahead : frameChunks sync ws ≡ entry 0 first ∷ ahead sync ws (size first) (span first)
   unfolding frameChunks frameOf
-  frame-is =
-      ap frameOf (next-here sync ws 0 begun .lists)
+  first-and-ahead =
+      ap frameOf (next-here sync ws 0 first-confirmed .lists)
       ∙ ap (λ (n : ℕ). entry 0 first ∷ joining (span first) (whole first) (listedFrom sync ws n)) (zero-add (span first))
 
-  image : imageSize (size first) ≡ true
-  image = image-size sync ws begun (and-left (eqb (kind first) 0) (leb 1 (camera first)) (and-right (confirmed sync ws) (starts first) s))
-
-  pub start : (end sum : ℕ) → end ≡ 2 + size first → sum ≡ size first - 8 * ((size first + 263) / 264) → Walked sync ws first 1 end sum
+  pub first-walked : (n end sum : ℕ) → n ≡ size first → end ≡ 2 + n → sum ≡ dataWordsIn n → Walked sync ws n 1 end sum
   unfolding listedWords
-  start end sum e d =
-      let n : end ≡ span first = omega (arith, e) in
-      let l : length (frameChunks sync ws) ≡ suc (length (ahead sync ws first (span first))) = ap length frame-is in
-      let w : frameWords sync ws ≡ span first + listedWords (ahead sync ws first (span first)) = ap listedWords frame-is in
-      let u : frameLength sync ws ≡ size first - 8 * ((size first + 263) / 264) + dataWords (unitsOf ws (ahead sync ws first (span first))) =
-      ap (λ (es : List Entry). dataWords (unitsOf ws es)) frame-is ∙ data-more ws 0 first (ahead sync ws first (span first)) (inside .0) image in
-      rw n record {
-        within = omega (arith, inside .0);
+  first-walked n end sum q e d =
+      let g : dataWordsIn n ≡ dataWordsIn (size first) = ap dataWordsIn q in
+      let m : end ≡ span first = omega (arith, e, q) in
+      let l : length (frameChunks sync ws) ≡ suc (length (ahead sync ws (size first) (span first))) = ap length first-and-ahead in
+      let w : frameWords sync ws ≡ span first + listedWords (ahead sync ws (size first) (span first)) = ap listedWords first-and-ahead in
+      let u : frameLength sync ws ≡ dataWordsIn (size first) + dataWords (unitsOf ws (ahead sync ws (size first) (span first))) =
+      ap (λ (es : List Entry). dataWords (unitsOf ws es)) first-and-ahead ∙ data-more ws 0 first (ahead sync ws (size first) (span first)) (first-within .0) in
+      rw (m, q) record {
+        within = omega (arith, first-within .0);
         few = omega arith;
-        short = omega (arith, d);
+        short = omega (arith, d, g);
         count = omega (arith, l);
         words = sym w;
-        units = omega (arith, u, d);
+        units = omega (arith, u, d, g);
       }
 
-  module _ (last chunks end sum : ℕ) (k : Walked sync ws last chunks end sum) where
+  module _ (n chunks end sum : ℕ) (k : Walked sync ws n chunks end sum) where
     -- a continuation that joins lies within the words
-    pub room : whole last && joinsFrame sync (drop end ws) ≡ true → (end + 1 < length ws) × (end + 2 + size (getD ws (end + 1) 0) ≤ length ws)
-    room j =
-        let c : confirmed sync (drop end ws) ≡ true = and-left (confirmed sync (drop end ws)) _ (and-right (whole last) _ j) in
+    pub joining-fits : eqb (n % 264) 0 && joinsFrame sync (drop end ws) ≡ true → (end + 1 < length ws) × (end + 2 + size (getD ws (end + 1) 0) ≤ length ws)
+    joining-fits j =
+        let c : confirmed sync (drop end ws) ≡ true = and-left (confirmed sync (drop end ws)) _ (and-right (eqb (n % 264) 0) _ j) in
         let b = hit-within sync ws end (confirmed-there sync ws end c) c in
         let q : getD ws (suc end) 0 ≡ getD ws (end + 1) 0 = ap (λ (x : ℕ). getD ws x 0) (sym (add-one end)) in
         (omega (arith, b .0), omega (arith, b .0, ap size q))
 
     -- a continuation joins
-    pub turn : (w next length′ : ℕ) → w ≡ getD ws (end + 1) 0 → whole last && joinsFrame sync (drop end ws) ≡ true
-        → next ≡ end + (2 + size w) → length′ ≡ sum + (size w - 8 * ((size w + 263) / 264)) → Walked sync ws w (chunks + 1) next length′
+    pub one-more-walked : (w size′ next length′ : ℕ) → w ≡ getD ws (end + 1) 0 → size′ ≡ size w → eqb (n % 264) 0 && joinsFrame sync (drop end ws) ≡ true
+        → next ≡ end + (2 + size′) → length′ ≡ sum + dataWordsIn size′ → Walked sync ws size′ (chunks + 1) next length′
     unfolding listedWords
-    turn w next length′ q j n m =
-        let f : whole last ≡ true = and-left (whole last) _ j in
-        let i : joinsFrame sync (drop end ws) ≡ true = and-right (whole last) _ j in
+    one-more-walked w size′ next length′ q t j a m =
+        let o : dataWordsIn size′ ≡ dataWordsIn (size w) = ap dataWordsIn t in
+        let f : eqb (n % 264) 0 ≡ true = and-left (eqb (n % 264) 0) _ j in
+        let i : joinsFrame sync (drop end ws) ≡ true = and-right (eqb (n % 264) 0) _ j in
         let c : confirmed sync (drop end ws) ≡ true = and-left (confirmed sync (drop end ws)) _ i in
         let d : getD (drop end ws) 1 0 ≡ w = getD-drop end ws 1 0 ∙ sym q in
         let y : continues w ≡ true = ap (λ (x : ℕ). continues x) (sym d) ∙ and-right (confirmed sync (drop end ws)) _ i in
         let h : w ≡ getD ws (suc end) 0 = q ∙ ap (λ (x : ℕ). getD ws x 0) (add-one end) in
         let b : end + span w ≤ length ws = rw h (hit-within sync ws end (confirmed-there sync ws end c) c .0) in
-        let g : imageSize (size w) ≡ true =
-        rw d at (image-size sync (drop end ws) c (rw d (and-left (eqb (kind w) 0) (eqb (camera w) 0) y))) in
-        let r : List Entry = ahead sync ws w (end + span w) in
-        let e : ahead sync ws last end ≡ entry end w ∷ r =
+        let r : List Entry = ahead sync ws (size w) (end + span w) in
+        let e : ahead sync ws n end ≡ entry end w ∷ r =
         ap (λ (x : Bool). joining end x (listedFrom sync ws end)) f ∙ joining-step sync ws end w h c y in
-        let z : next ≡ end + span w = omega (arith, n) in
-        let u : dataWords (unitsOf ws (ahead sync ws last end)) ≡ size w - 8 * ((size w + 263) / 264) + dataWords (unitsOf ws r) =
-        ap (λ (es : List Entry). dataWords (unitsOf ws es)) e ∙ data-more ws end w r b g in
-        rw z record {
+        let z : next ≡ end + span w = omega (arith, a, t) in
+        let u : dataWords (unitsOf ws (ahead sync ws n end)) ≡ dataWordsIn (size w) + dataWords (unitsOf ws r) =
+        ap (λ (es : List Entry). dataWords (unitsOf ws es)) e ∙ data-more ws end w r b in
+        rw (z, t) record {
           within = b;
           few = omega (arith, k .few);
-          short = omega (arith, k .short, m);
+          short = omega (arith, k .short, m, o);
           count = omega (arith, k .count, ap length e);
           words = omega (arith, k .words, ap listedWords e);
-          units = omega (arith, k .units, u, m);
+          units = omega (arith, k .units, u, m, o);
         }
 
     -- nothing more joins
-    pub done : whole last && joinsFrame sync (drop end ws) ≡ false
+    pub all-walked : eqb (n % 264) 0 && joinsFrame sync (drop end ws) ≡ false
         → record { chunks = chunks; end = end; length = sum } ≡ reachOf sync ws
     unfolding listedWords unitsOf dataWords
-    done j =
-        let z : ahead sync ws last end ≡ [] = joining-stop sync ws end (whole last) (rw (getD-drop end ws 1 0, add-one) at j) in
+    all-walked j =
+        let z : ahead sync ws n end ≡ [] = joining-stop sync ws end (eqb (n % 264) 0) (rw (getD-drop end ws 1 0, add-one) at j) in
         let a : chunks ≡ length (frameChunks sync ws) = omega (arith, k .count, ap length z) in
         let b : end ≡ frameWords sync ws = omega (arith, k .words, ap listedWords z) in
         let c : sum ≡ frameLength sync ws = omega (arith, k .units, ap (λ (es : List Entry). dataWords (unitsOf ws es)) z) in
         cc
 
   -- the frame lies within the words
-  pub ends : frameWords sync ws ≤ length ws
+  pub frame-ends-inside : frameWords sync ws ≤ length ws
   unfolding listedWords
-  ends =
-      let r : Rest sync ws (span first) (ahead sync ws first (span first)) =
-      rest sync ws (length ws) (span first) (whole first) (omega arith) (omega (arith, inside .0)) in
-      omega (arith, r .within, ap listedWords frame-is)
+  frame-ends-inside =
+      let r : Rest sync ws (span first) (ahead sync ws (size first) (span first)) =
+      rest sync ws (length ws) (span first) (whole first) (omega arith) (omega (arith, first-within .0)) in
+      omega (arith, r .within, ap listedWords first-and-ahead)
 
   -- whether the frame is complete is a question about the place where it ends
-  pub complete-at : complete sync ws ≡ closesFrame sync (drop (frameWords sync ws) ws) (frameCamera ws)
+  pub complete-at-end : complete sync ws ≡ closesFrame sync (drop (frameWords sync ws) ws) (frameCamera ws)
   unfolding complete listedWords
-  complete-at =
-      let es : List Entry = ahead sync ws first (span first) in
-      let r : Rest sync ws (span first) es = rest sync ws (length ws) (span first) (whole first) (omega arith) (omega (arith, inside .0)) in
-      let w : frameWords sync ws ≡ span first + listedWords es = ap listedWords frame-is in
+  complete-at-end =
+      let es : List Entry = ahead sync ws (size first) (span first) in
+      let r : Rest sync ws (span first) es = rest sync ws (length ws) (span first) (whole first) (omega arith) (omega (arith, first-within .0)) in
+      let w : frameWords sync ws ≡ span first + listedWords es = ap listedWords first-and-ahead in
       let d : drop (length (frameChunks sync ws)) (reading sync ws) ≡ listedFrom sync ws (frameWords sync ws) =
-      ap (λ (n : ℕ). drop n (reading sync ws)) (ap length frame-is)
-      ∙ ap (drop (suc (length es))) (next-here sync ws 0 begun .lists ∙ ap (λ (n : ℕ). entry 0 first ∷ listedFrom sync ws n) (zero-add (span first)))
+      ap (λ (n : ℕ). drop n (reading sync ws)) (ap length first-and-ahead)
+      ∙ ap (drop (suc (length es))) (next-here sync ws 0 first-confirmed .lists ∙ ap (λ (n : ℕ). entry 0 first ∷ listedFrom sync ws n) (zero-add (span first)))
       ∙ r .on ∙ ap (listedFrom sync ws) (sym w) in
       ap (closes ws (frameWords sync ws) (frameCamera ws)) d ∙ closes-at sync (frameCamera ws) ws (frameWords sync ws)
       ∙ rw (getD-drop (frameWords sync ws) ws 1 0, add-one, drop-drop 2 (frameWords sync ws) ws)
 
   -- a frame is described by how far it reaches and what stands at its end
-  pub described-is : (r : Reach) (cam : ℕ) (b : Bool) → r ≡ reachOf sync ws → cam ≡ frameCamera ws
+  pub described-by-reach : (r : Reach) (cam : ℕ) (b : Bool) → r ≡ reachOf sync ws → cam ≡ frameCamera ws
       → b ≡ closesFrame sync (take (length ws - r .end) (drop (r .end) ws)) cam → frame 0 cam (r .chunks) b (r .length) ≡ described sync ws
   unfolding described
-  described-is r cam b e f g =
+  described-by-reach r cam b e f g =
       let n : r .end ≡ frameWords sync ws = ap (λ (x : Reach). x .end) e in
       let w : b ≡ complete sync ws =
       g ∙ ap (λ (x : List ℕ). closesFrame sync x cam) (to-end (r .end) ws ∙ ap (λ (m : ℕ). drop m ws) n)
-      ∙ ap (λ (x : ℕ). closesFrame sync (drop (frameWords sync ws) ws) x) f ∙ sym complete-at in
+      ∙ ap (λ (x : ℕ). closesFrame sync (drop (frameWords sync ws) ws) x) f ∙ sym complete-at-end in
       rw (e, f, w)

@@ -1,4 +1,5 @@
 pub mod Shape
 pub mod Picture
-pub mod Replies
+pub mod Described
 pub mod Pieces
+pub mod Walk

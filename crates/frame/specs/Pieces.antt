@@ -1,4 +1,4 @@
--- Document 01, "Frames": the frames and strays of a recording, in order of position.
+-- FORMAT, "Frames": the frames and strays of a recording, in order of position.
 use Prim.Native.Nat.{ℕ, _+_}
 use mathlib.Core.Bool.{Bool, true, false, cond, _&&_}
 use mathlib.Core.List.{List, [], _∷_}
@@ -9,7 +9,7 @@ use Rattle.chunk.specs.Header.{kind, span}
 use Rattle.chunk.specs.Reading.{listed, reading}
 use Rattle.frame.specs.declared.Piece.{Piece}
 use Rattle.frame.specs.Shape.{starts, continues, whole, frameWords}
-use Rattle.frame.specs.Replies.{described}
+use Rattle.frame.specs.Described.{described}
 
 -- Of the listed chunks, those that start a frame and those that are stray: continuations that join no frame. `end` and `all` are as in `joining`, of
 -- the frame in hand; where none is, `all` is false.

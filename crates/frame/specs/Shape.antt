@@ -1,4 +1,4 @@
--- Document 01, "Frames": which chunks make a frame, and when it is complete. All of it is said of the words from the frame's first word on, so a
+-- FORMAT, "Frames": which chunks make a frame, and when it is complete. All of it is said of the words from the frame's first word on, so a
 -- position here counts from there, and nothing before a frame can change it.
 use Prim.Native.Nat.{ℕ, _+_, _%_}
 use mathlib.Core.Bool.{Bool, true, false, _&&_}
@@ -6,7 +6,7 @@ use mathlib.Core.List.{List, [], _∷_}
 use lib.ListN.{length, getD, take, drop}
 use lib.Dec.{leb, eqb}
 use Rattle.chunk.specs.declared.Entry.{Entry}
-use Rattle.chunk.specs.Header.{size, camera, kind, span, confirmed}
+use Rattle.chunk.specs.Header.{size, camera, kind, span}
 use Rattle.chunk.specs.Reading.{reading, listedWords}
 use Rattle.health.specs.Packet.{soundPacket, packetType}
 
@@ -37,14 +37,6 @@ unfoldable pub frameOf : List Entry → List Entry
 frameOf [] = []
 frameOf (e ∷ es) = e ∷ joining (span (e .header)) (whole (e .header)) es
 
--- a frame starts at the front of these words
-abbrev pub startsFrame : ℕ → List ℕ → Bool
-startsFrame sync ws = confirmed sync ws && starts (getD ws 1 0)
-
--- a continuation stands at the front of these words
-abbrev pub joinsFrame : ℕ → List ℕ → Bool
-joinsFrame sync ws = confirmed sync ws && continues (getD ws 1 0)
-
 -- the chunks of the frame at the front of these words
 unfoldable pub frameChunks : ℕ → List ℕ → List Entry
 frameChunks sync ws = frameOf (reading sync ws)
@@ -65,10 +57,6 @@ observes ws cam = soundPacket (take 32 ws) && eqb (packetType ws) (3 + cam)
 unfoldable pub closes : List ℕ → ℕ → ℕ → List Entry → Bool
 closes ws end cam [] = false
 closes ws end cam (e ∷ es) = eqb (e .position .0) end && eqb (kind (e .header)) 1 && observes (drop (end + 2) ws) cam
-
--- a health chunk stands at the front of these words, and its first packet observes the camera
-abbrev pub closesFrame : ℕ → List ℕ → ℕ → Bool
-closesFrame sync ws cam = confirmed sync ws && eqb (kind (getD ws 1 0)) 1 && observes (drop 2 ws) cam
 
 -- complete, else cut
 unfoldable pub complete : ℕ → List ℕ → Bool

@@ -1,10 +1,11 @@
-// Frames: what a frame is, whether it is complete, and its picture.
-pub mod asked;
-mod picture;
+// Frames: what a frame is, whether it is complete, and going through a recording by its frames and strays.
 pub mod pieces;
 mod shape;
 
 use base::Words;
+use chunk::header;
+ghost use mathlib.Core.Path.{_≡_};
+ghost use Rattle.frame.specs.Shape.{starts};
 
 // A frame: its camera, how many chunks it has, whether it is complete or cut, and the words of its data.
 pub struct Frame {
@@ -20,4 +21,11 @@ pub enum Piece {
     Whole(Words, Frame, Words),
     Stray(Words, Words),
     End,
+}
+
+// Whether a chunk with this header word starts a frame.
+pub fn starts(header: u16) -> bool
+    ensures { λ r. ⌜ r ≡ starts header ⌝ }
+{
+    (header::kind_of(header) == 0) & (1 <= header::camera_of(header))
 }

@@ -8,7 +8,7 @@ use chunk::search;
 ghost use mathlib.Core.Path.{_≡_};
 ghost use mathlib.Core.Bool.{true};
 ghost use lib.ListN.{drop};
-ghost use Rattle.frame.specs.Shape.{startsFrame};
+ghost use Rattle.frame.specs.Walk.{startsFrame};
 ghost use Rattle.frame.specs.Pieces.{frameThere, nextPiece};
 
 // The frame that starts at a place, and the place where it ends.
@@ -35,7 +35,7 @@ pub fn next(words: &[u16], sync: u16, from: Words) -> Piece
                 let begins = entry.position.0;
                 let end = begins + header::HEADER + header::size_of(entry.header).0;
                 if header::kind_of(entry.header) == 0 {
-                    if shape::starts(entry.header) {
+                    if crate::starts(entry.header) {
                         return frame_there(words, sync, begins);
                     }
                     return Piece::Stray(Words(begins), Words(end));

@@ -8,55 +8,15 @@ use chunk::header::HEADER;
 use health::packet;
 ghost use mathlib.Core.Path.{_≡_};
 ghost use mathlib.Core.Bool.{true};
-ghost use Prim.Native.Nat.{_+_, _-_, _*_, _/_};
-ghost use Rattle.chunk.specs.Header.{size, confirmed};
-ghost use Rattle.frame.specs.Shape.{starts, continues, whole, startsFrame, joinsFrame, closesFrame};
-ghost use Rattle.frame.specs.Replies.{described, reachOf};
-
-// the words of a whole unit, and its parity words
-pub const UNIT: usize = 264;
-
-const PARITY: usize = 8;
+ghost use Rattle.chunk.specs.Header.{confirmed};
+ghost use Rattle.frame.specs.Described.{described};
+ghost use Rattle.frame.specs.Walk.{startsFrame, joinsFrame, closesFrame, reachOf};
 
 // How far a frame reaches: its chunks, its words and its data words.
 pub struct Reach {
     pub chunks: usize,
     pub end: usize,
     pub length: usize,
-}
-
-pub fn starts(header: u16) -> bool
-    ensures { λ r. ⌜ r ≡ starts header ⌝ }
-{
-    (header::kind_of(header) == 0) & (1 <= header::camera_of(header))
-}
-
-pub fn continues(header: u16) -> bool
-    ensures { λ r. ⌜ r ≡ continues header ⌝ }
-{
-    (header::kind_of(header) == 0) & (header::camera_of(header) == 0)
-}
-
-fn whole(header: u16) -> bool
-    ensures { λ r. ⌜ r ≡ whole header ⌝ }
-{
-    header::size_of(header).0 % UNIT == 0
-}
-
-// How many units a payload of n words has.
-pub fn units_of(n: usize) -> usize
-    ensures { λ r. ⌜ r ≡ (n + 263) / 264 ⌝ }
-{
-    n / UNIT + (n % UNIT + (UNIT - 1)) / UNIT
-}
-
-// The data words of a chunk.
-fn data_of(header: u16) -> usize
-    ensures { λ r. ⌜ r ≡ size header - 8 * ((size header + 263) / 264) ⌝ }
-{
-    let n = header::size_of(header).0;
-    let parity = PARITY * units_of(n);
-    if n < parity { 0 } else { n - parity }
 }
 
 fn confirmed(words: &[u16], sync: u16) -> bool
@@ -73,23 +33,24 @@ fn confirmed(words: &[u16], sync: u16) -> bool
 fn joins(words: &[u16], sync: u16) -> bool
     ensures { λ r. ⌜ r ≡ joinsFrame sync (now (words .entry)) ⌝ }
 {
-    confirmed(words, sync) & continues(room::word_at(words, Words(1)))
+    let word = room::word_at(words, Words(1));
+    confirmed(words, sync) & ((header::kind_of(word) == 0) & (header::camera_of(word) == 0))
 }
 
-// The chunks of the frame at the front of these words.
+// The chunks of the frame at the front of these words: a chunk that is no multiple of a whole unit is its last.
 pub fn measure(words: &[u16], sync: u16) -> Reach
     requires { ⌜ startsFrame sync (now words) ≡ true ⌝ }
     ensures { λ r. ⌜ r ≡ reachOf sync (now (words .entry)) ⌝ }
 {
-    let mut last = words[1];
+    let mut size = header::size_of(words[1]).0;
     let mut chunks = 1;
-    let mut end = HEADER + header::size_of(last).0;
-    let mut length = data_of(last);
-    while whole(last) & joins(&words[end..], sync) {
-        last = words[end + 1];
+    let mut end = HEADER + size;
+    let mut length = parity_units::data_words(Words(size)).0;
+    while (size % parity_units::UNIT == 0) & joins(&words[end..], sync) {
+        size = header::size_of(words[end + 1]).0;
         chunks += 1;
-        end += HEADER + header::size_of(last).0;
-        length += data_of(last);
+        end += HEADER + size;
+        length += parity_units::data_words(Words(size)).0;
     }
     Reach {
         chunks,

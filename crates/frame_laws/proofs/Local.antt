@@ -4,7 +4,7 @@ use mathlib.Core.Path.{_≡_, refl, sym, ap, ap₂, subst, _∙_}
 use mathlib.Core.Bool.{Bool, true, false, _&&_, false≢true, and-false}
 use mathlib.Core.List.{List, [], _∷_, _++_}
 use mathlib.Core.Logic.{inl, inr}
-use Prim.Native.Nat.{ℕ, zero, suc, _+_, _/_, _≤_}
+use Prim.Native.Nat.{ℕ, zero, suc, _+_, _≤_}
 use native.Mathlib.Omega.{arith}
 use native.Mathlib.Nat.{add-assoc, add-zero, zero-add}
 use lib.ListN.{length, getD, take, drop, length-take, length-drop, take-append-drop}
@@ -21,12 +21,14 @@ use Rattle.chunk_laws.specs.Resync.{_∈_}
 use Rattle.chunk_laws.proofs.Tests.{and-both}
 use Rattle.chunk_laws.proofs.ByPlace.{listed-place}
 use Rattle.chunk_laws.proofs.Rows.{lists-row}
-use Rattle.frame.specs.Shape.{starts, continues, whole, joining, frameOf, startsFrame, frameChunks, frameWords}
-use Rattle.frame.specs.Picture.{parts, payloadOf, unitsOf, frameUnits}
+use Rattle.parity_units.specs.Split.{unitsIn}
+use Rattle.frame.specs.Shape.{starts, continues, whole, joining, frameOf, frameChunks, frameWords}
+use Rattle.frame.specs.Picture.{payloadOf, unitsOf, frameUnits}
+use Rattle.frame.specs.Walk.{startsFrame}
 use Rattle.frame.specs.Pieces.{framesAndStrays}
 use Rattle.frame.proofs.Joining.{joining-one, listedFrom}
-use Rattle.frame.proofs.UnitWords.{payload-length}
-use Rattle.frame.proofs.Walking.{frame-is, ends as frame-ends}
+use Rattle.frame.proofs.Chunks.{payload-length}
+use Rattle.frame.proofs.Walking.{first-and-ahead, frame-ends-inside}
 use Rattle.frame_laws.specs.Local.{EndToEnd, Local, NoneEnds, StrayAfterGap}
 use Rattle.frame_laws.proofs.Pieces.{pick, pieces-one}
 
@@ -148,7 +150,7 @@ unfolding unitsOf listedWords
 units-within n ws l at [] p f = refl
 units-within n ws l at (e ∷ es) p f =
     let h : ℕ = e .header in
-    ap₂ (λ (x : List ℕ) (us : List (List ℕ)). parts ((size h + 263) / 264) x ++ us)
+    ap₂ (λ (x : List ℕ) (us : List (List ℕ)). unitsIn x ++ us)
     (payload-within n ws (e .position .0) h (omega (arith, p .0)) l)
     (units-within n ws l (at + span h) es (p .1) (omega arith))
 
@@ -176,7 +178,7 @@ module _ (sync : ℕ) (ws : List ℕ) (s : startsFrame sync ws ≡ true) where
   end-to-end =
       let h : ℕ = getD ws 1 0 in
       let j = joined (span h) (whole h) (listedFrom sync ws (span h)) in
-      subst (EndToEnd 0) (sym (frame-is sync ws s)) (refl, rw (zero-add (span h)) (j .endToEnd))
+      subst (EndToEnd 0) (sym (first-and-ahead sync ws s)) (refl, rw (zero-add (span h)) (j .endToEnd))
 
   stand : (e : Entry) → e ∈ fs → Stands sync ws e
   unfolding frameChunks
@@ -192,7 +194,7 @@ module _ (sync : ℕ) (ws : List ℕ) (s : startsFrame sync ws ≡ true) where
   same-units : frameUnits sync own ≡ frameUnits sync ws
   same-units =
       ap (unitsOf own) same-chunks
-      ∙ units-within (frameWords sync ws) ws (frame-ends sync ws s) 0 fs end-to-end (omega arith)
+      ∙ units-within (frameWords sync ws) ws (frame-ends-inside sync ws s) 0 fs end-to-end (omega arith)
 
   pub local : Local sync ws
   local = record {

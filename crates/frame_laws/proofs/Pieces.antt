@@ -14,18 +14,19 @@ use Rattle.base.proofs.Booleans.{and-left, and-right}
 use Rattle.chunk.specs.declared.Entry.{Entry}
 use Rattle.chunk.specs.declared.Found.{Found}
 use Rattle.chunk.specs.declared.Found.the-variants.{Chunk, End}
-use Rattle.chunk.specs.Header.{kind, camera, span}
+use Rattle.chunk.specs.Header.{size, kind, camera, span}
 use Rattle.chunk.specs.Reading.{entry, listed, nextFrom, listedWords}
 use Rattle.chunk.proofs.Steps.{past, Next, stepped, ended, found-end}
 use Rattle.chunk_laws.specs.Resync.{moved}
 use Rattle.chunk_laws.proofs.ByPlace.{listed-moved}
 use Rattle.frame.specs.declared.Piece.{Piece}
 use Rattle.frame.specs.declared.Piece.the-variants.{Whole, Stray, End as Nothing}
-use Rattle.frame.specs.Shape.{starts, continues, whole, joining, startsFrame, frameWords}
+use Rattle.frame.specs.Shape.{starts, continues, whole, joining, frameWords}
+use Rattle.frame.specs.Walk.{startsFrame}
 use Rattle.frame.specs.Pieces.{framesAndStrays, frameThere, strayThere, nextPiece}
 use Rattle.frame.proofs.Joining.{joining-one, listedFrom, Rest, rest}
-use Rattle.frame.proofs.Walking.{ahead, frame-is}
-use Rattle.frame.proofs.Stepping.{none, passed as health-passed, framed, strayed, frame-starts}
+use Rattle.frame.proofs.Walking.{ahead, first-and-ahead}
+use Rattle.frame.proofs.pieces.Stepping.{no-piece, health-passed, frame-next, stray-next, frame-starts}
 use Rattle.frame_laws.specs.Pieces.{piecesFrom, Says}
 
 -- one listed chunk: whether it continues a frame, whether it joins the one in hand, whether it starts one
@@ -130,11 +131,11 @@ module _ (sync : ℕ) (ws : List ℕ) where
       let h : ℕ = getD v 1 0 in
       let l : listedFrom sync ws (p + span h) ≡ moved p (listedFrom sync v (span h)) =
       ap (listed sync (p + span h) 0) (sym (drop-drop (span h) p ws)) ∙ listed-moved sync p (span h) 0 (drop (span h) v) in
-      let w : listedWords (joining (p + span h) (whole h) (listedFrom sync ws (p + span h))) ≡ listedWords (ahead sync v h (span h)) =
+      let w : listedWords (joining (p + span h) (whole h) (listedFrom sync ws (p + span h))) ≡ listedWords (ahead sync v (size h) (span h)) =
       ap (λ (es : List Entry). listedWords (joining (p + span h) (whole h) es)) l
       ∙ ap listedWords (joining-moved p (span h) (whole h) (listedFrom sync v (span h)))
-      ∙ words-moved p (ahead sync v h (span h)) in
-      omega (arith, ap listedWords (frame-is sync v s), w)
+      ∙ words-moved p (ahead sync v (size h) (span h)) in
+      omega (arith, ap listedWords (first-and-ahead sync v s), w)
 
   moves : (p q : ℕ) → piecesFrom sync ws p ≡ piecesFrom sync ws q → (x : Piece) → Says sync ws q x → Says sync ws p x
   moves p q e (Whole a f r) s = e ∙ s
@@ -185,7 +186,7 @@ module _ (sync : ℕ) (ws : List ℕ) where
 
   at-end : (p : ℕ) → nextFrom sync ws p ≡ Found.End → Says sync ws p (nextPiece sync ws p)
   unfolding framesAndStrays
-  at-end p f = subst (Says sync ws p) (sym (none sync ws p f)) (ap (framesAndStrays 0 false) (ended sync ws p f .lists))
+  at-end p f = subst (Says sync ws p) (sym (no-piece sync ws p f)) (ap (framesAndStrays 0 false) (ended sync ws p f .lists))
 
   -- a chunk was found: the piece is there, or the search goes on past a health chunk
   at-chunk : (p : ℕ) (e : Entry) (n : Next sync ws p e) → Says sync ws (past e) (nextPiece sync ws (past e)) → Says sync ws p (nextPiece sync ws p)
@@ -196,9 +197,9 @@ module _ (sync : ℕ) (ws : List ℕ) where
           subst (Says sync ws p) (sym (health-passed sync ws p e n (eqb-false (kind (e .header)) 0 k)))
           (moves p (past e) (at-health p e n k) (nextPiece sync ws (past e)) more)
       by-kind true k true y =
-          subst (Says sync ws p) (sym (framed sync ws p e n (eqb-true (kind (e .header)) 0 k) y)) (at-frame p e n y)
+          subst (Says sync ws p) (sym (frame-next sync ws p e n (eqb-true (kind (e .header)) 0 k) y)) (at-frame p e n y)
       by-kind true k false y =
-          subst (Says sync ws p) (sym (strayed sync ws p e n (eqb-true (kind (e .header)) 0 k) y)) (at-stray p e n k y)
+          subst (Says sync ws p) (sym (stray-next sync ws p e n (eqb-true (kind (e .header)) 0 k) y)) (at-stray p e n k y)
 
   by-found : (k p : ℕ) → length ws ≤ p + suc k → ((q : ℕ) → length ws ≤ q + k → Says sync ws q (nextPiece sync ws q))
       → (f : Found) → nextFrom sync ws p ≡ f → Says sync ws p (nextPiece sync ws p)

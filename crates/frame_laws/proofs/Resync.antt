@@ -8,17 +8,17 @@ use native.Mathlib.Omega.{arith}
 use lib.ListN.{length, drop, length-append}
 use lib.Seq.{drop-append-add}
 use borrow.Author.Tests.{le-ltb}
-use Rattle.base.specs.Limit.{recordingLimit}
+use Rattle.base.specs.Limit.{recordingLimit, tooLong}
 use Rattle.chunk.specs.Reading.{listedAt}
 use Rattle.chunk_laws.specs.Stretch.{Laid, words, offset, clean, unbroken}
 use Rattle.chunk_laws.proofs.ByPlace.{listed-place}
 use Rattle.chunk_laws.proofs.Stretch.{clean-unbroken}
 use Rattle.chunk_laws.proofs.Resync.{listed-same, listed-late}
-use Rattle.frame.specs.Replies.{tooLong, atReply, judgeReply, readReply, readRoom}
+use Rattle.frame_reading.specs.Replies.{atReply, judgeReply, readReply, readRoom}
 use Rattle.frame_laws.specs.Resync.{SameFrame, FramesAsAlone}
 
 -- the calls look at three things: whether the recording is too long, whether a chunk is listed at the place, and the words from there on
-same-frame : (sync p : ℕ) (ws : List ℕ) (q : ℕ) (vs : List ℕ) → tooLong ws ≡ tooLong vs → listedAt sync ws p ≡ listedAt sync vs q
+pub same-frame : (sync p : ℕ) (ws : List ℕ) (q : ℕ) (vs : List ℕ) → tooLong ws ≡ tooLong vs → listedAt sync ws p ≡ listedAt sync vs q
     → drop p ws ≡ drop q vs → SameFrame sync ws p vs q
 unfolding atReply judgeReply readReply readRoom
 same-frame sync p ws q vs t l d = record {

@@ -13,12 +13,12 @@ use borrow.Author.Tests.{eq-eqb, ne-eqb, eqb-true, leb-true, le-leb, le-ltb}
 use Rattle.base.proofs.Booleans.{and-left, and-right}
 use Rattle.base.specs.Refusal.{verdict}
 use Rattle.base.specs.Room.{put}
-use Rattle.base.specs.Limit.{recordingLimit}
+use Rattle.base.specs.Limit.{recordingLimit, tooLong}
 use Rattle.base.proofs.Refused.{answer-yes}
 use Rattle.chunk.specs.declared.Entry.{Entry}
 use Rattle.chunk.specs.Header.{size, kind, span, legalSize, confirmed}
 use Rattle.chunk.specs.Reading.{entry, listedWords}
-use Rattle.chunk.specs.Writing.{headerWord}
+use Rattle.chunk_writing.specs.Writing.{headerWord}
 use Rattle.chunk_laws.specs.Stretch.{Laid, words, offset, entries, whole as wholeChunk, wholeRow}
 use Rattle.chunk_laws.specs.Written.{accepted, written}
 use Rattle.chunk_laws.proofs.Tests.{and-both}
@@ -28,12 +28,15 @@ use Rattle.parity_laws.specs.Units.{Hold}
 use Rattle.health.specs.Packet.{permittedType}
 use Rattle.health.specs.Writing.{packetFrom}
 use Rattle.health_laws.proofs.RoundTrip.{written-is-sound}
-use Rattle.frame.specs.Shape.{starts, continues, whole, joining, frameOf, startsFrame, frameChunks, frameWords, frameCamera, observes, closesFrame, complete}
-use Rattle.frame.specs.Picture.{parts, unitsIn, payloadOf, unitsOf, frameUnits, anyDamaged, joinedData, dataWords}
-use Rattle.frame.specs.Replies.{frame, refused, described, tooLong, noFrame, atCauses, judgeCauses, readCauses, atReply, judgeReply, readReply, readRoom}
+use Rattle.parity_units.specs.Split.{parts, unitsIn, anyDamaged, joinedData, dataWords}
+use Rattle.parity_units.proofs.Split.{joined-length}
+use Rattle.frame.specs.Shape.{starts, continues, whole, joining, frameOf, frameChunks, frameWords, frameCamera, observes, complete}
+use Rattle.frame.specs.Picture.{payloadOf, unitsOf, frameUnits}
+use Rattle.frame.specs.Described.{frame, described}
+use Rattle.frame.specs.Walk.{startsFrame, closesFrame}
+use Rattle.frame_reading.specs.Replies.{refused, noFrame, atCauses, judgeCauses, readCauses, atReply, judgeReply, readReply, readRoom}
 use Rattle.frame.proofs.Joining.{joining-one}
-use Rattle.frame.proofs.Units.{joined-length}
-use Rattle.frame.proofs.Walking.{complete-at}
+use Rattle.frame.proofs.Walking.{complete-at-end}
 use Rattle.frame_laws.specs.Written.{joined, unitRow, frameRow, writable, fullButLast, allUnits, Written, recordingOf, ComesBack, FramesComeBack}
 
 -- ---- a payload splits into its units
@@ -145,8 +148,7 @@ frame-units sync at cam v (us ∷ uss) rest w e =
     let o : drop (at + span h) v ≡ words sync (frameRow 0 uss ++ rest) =
     sym (drop-drop (span h) at v) ∙ ap (drop (span h)) e ∙ row-drop sync c (frameRow 0 uss ++ rest) k in
     ap₂ (λ (x y : List (List ℕ)). x ++ y)
-    (ap (λ (m : ℕ). parts ((m + 263) / 264) (payloadOf v (entry at h))) n ∙ ap (parts ((length (joined us) + 263) / 264)) p
-    ∙ splits-back us (row-units cam us uss w))
+    (ap unitsIn p ∙ splits-back us (row-units cam us uss w))
     (frame-units sync (at + span h) 0 v uss rest (others cam us uss w) o)
 
 -- of the chunks after the first, the frame's own join, and no other, as the next is health
@@ -237,7 +239,7 @@ module _ (sync cam : ℕ) (us : List (List ℕ)) (uss : List (List (List ℕ))) 
       let e : drop (frameWords sync here) here ≡ words sync (closing ∷ after) =
       ap (λ (n : ℕ). drop n here) (ap listedWords own-chunks ∙ row-words sync 0 row row-whole) ∙ row-at sync row (closing ∷ after) refl in
       let f : frameCamera here ≡ cam = camera-written 0 cam (joined us) first-taken in
-      complete-at sync here frame-starts ∙ ap₂ (closesFrame sync) e f
+      complete-at-end sync here frame-starts ∙ ap₂ (closesFrame sync) e f
       ∙ rw (
         row-confirmed sync closing after rest-whole,
         kind-written 1 0 health (w .closing),

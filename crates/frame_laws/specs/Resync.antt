@@ -6,7 +6,7 @@ use lib.ListN.{length}
 use Rattle.chunk.specs.Reading.{entry, reading}
 use Rattle.chunk_laws.specs.Stretch.{Laid, words, offset}
 use Rattle.chunk_laws.specs.Resync.{_∈_}
-use Rattle.frame.specs.Replies.{atReply, judgeReply, readReply, readRoom}
+use Rattle.frame_reading.specs.Replies.{atReply, judgeReply, readReply, readRoom}
 
 -- Each call for a frame answers at the place p of a recording what it answers at the place q of another, and leaves the same data in the room.
 pub record SameFrame (sync : ℕ) (ws : List ℕ) (p : ℕ) (vs : List ℕ) (q : ℕ) : Type 0 where

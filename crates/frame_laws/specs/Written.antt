@@ -11,7 +11,8 @@ use Rattle.chunk_laws.specs.Stretch.{Laid, words, offset, wholeRow}
 use Rattle.chunk_laws.specs.Written.{accepted, written}
 use Rattle.parity_laws.specs.Units.{Hold}
 use Rattle.frame.specs.Shape.{observes}
-use Rattle.frame.specs.Replies.{frame, atReply, judgeReply, readReply, readRoom}
+use Rattle.frame.specs.Described.{frame}
+use Rattle.frame_reading.specs.Replies.{atReply, judgeReply, readReply, readRoom}
 
 -- lists joined
 unfoldable pub joined : List (List ℕ) → List ℕ

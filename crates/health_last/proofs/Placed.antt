@@ -8,7 +8,7 @@ use lib.ListN.{length, take, drop, length-take, length-drop}
 use lib.Dec.{eqb, ltb}
 use borrow.Author.Tests.{eq-eqb, ne-eqb, eqb-true, eqb-false}
 use Rattle.base.proofs.Booleans.{and-left, and-right}
-use Rattle.base.specs.Refusal.{Causes, verdict, answer, nothingThere}
+use Rattle.base.specs.Refusal.{Causes, verdict, nothingThere}
 use Rattle.base.specs.declared.Words.{Words}
 use Rattle.base.proofs.Refused.{numbered, spared, answer-no, answer-yes}
 use Rattle.health.specs.Packet.{packetType, soundPacket}
@@ -17,7 +17,7 @@ use Rattle.health_last.specs.declared.Place.{Place}
 use Rattle.health_last.specs.declared.Sought.{Sought}
 use Rattle.health_last.specs.declared.Sought.the-variants.{At, Nowhere}
 use Rattle.health_last.specs.Packets.{sciencePlaces, healthPlaces, soundOf, later, lastWhere}
-use Rattle.health_last.specs.Last.{inScience, inHealth, place, shown, argumentCauses, lastCauses, lastPlaceReply, partAt, lastPacketReply}
+use Rattle.health_last.specs.Last.{inScience, inHealth, refused, shown, argumentCauses, lastCauses, lastPlaceReply, partAt, lastPacketReply}
 
 -- ---- the place that is found passes the test
 
@@ -47,50 +47,50 @@ sound-within t ws p e =
 -- ---- the causes
 
 -- further causes tell nothing where one of the first holds, and all where none does
-early : (cs ds : Causes) → (verdict cs ≡ 0 → ⊥) → verdict (cs ++ ds) ≡ verdict cs
-early [] ds h = absurd (h refl)
-early ((n, true) ∷ cs) ds h = refl
-early ((n, false) ∷ cs) ds h = early cs ds h
+verdict-first : (cs ds : Causes) → (verdict cs ≡ 0 → ⊥) → verdict (cs ++ ds) ≡ verdict cs
+verdict-first [] ds h = absurd (h refl)
+verdict-first ((n, true) ∷ cs) ds h = refl
+verdict-first ((n, false) ∷ cs) ds h = verdict-first cs ds h
 
-late : (cs ds : Causes) → numbered cs ≡ true → verdict cs ≡ 0 → verdict (cs ++ ds) ≡ verdict ds
-late [] ds k e = refl
-late ((n, true) ∷ cs) ds k e = let z = spared ((n, true) ∷ cs) k e .0 in let o : _≡_ {A = ℕ} 0 1 = cc in absurd (omega arith)
-late ((n, false) ∷ cs) ds k e = late cs ds (and-right (ltb 0 n) (numbered cs) k) e
+verdict-last : (cs ds : Causes) → numbered cs ≡ true → verdict cs ≡ 0 → verdict (cs ++ ds) ≡ verdict ds
+verdict-last [] ds k e = refl
+verdict-last ((n, true) ∷ cs) ds k e = let z = spared ((n, true) ∷ cs) k e .0 in let o : _≡_ {A = ℕ} 0 1 = cc in absurd (omega arith)
+verdict-last ((n, false) ∷ cs) ds k e = verdict-last cs ds (and-right (ltb 0 n) (numbered cs) k) e
 
-module _ (sync : ℕ) (science : List ℕ) (t : ℕ) (health : List ℕ) {v : ℕ} (e : v ≡ verdict (argumentCauses (length science) (length health) t)) where
+module _ (sync : ℕ) (science : List ℕ) (t : ℕ) (health : List ℕ) {v : ℕ} (e : v ≡ verdict (argumentCauses science health t)) where
   abbrev found : Place
   found = shown (inScience sync science t) (inHealth health t)
 
   abbrev arguments : Causes
-  arguments = argumentCauses (length science) (length health) t
+  arguments = argumentCauses science health t
 
   abbrev neither : Causes
   neither = (nothingThere, eqb (found .recording) 0) ∷ []
 
-  pub stopped : (v ≡ 0 → ⊥) → place v 0 0 ≡ lastPlaceReply sync science health t
+  pub arguments-refused : (v ≡ 0 → ⊥) → refused v ≡ lastPlaceReply sync science health t
   unfolding lastPlaceReply
-  stopped h =
-      let k = early arguments neither (λ z. h (e ∙ z)) in
-      ap (λ (n : ℕ). place n 0 0) (e ∙ sym k) ∙ sym (answer-no _ _ found (λ z. h (e ∙ sym k ∙ z)))
+  arguments-refused h =
+      let k = verdict-first arguments neither (λ z. h (e ∙ z)) in
+      ap refused (e ∙ sym k) ∙ sym (answer-no _ _ found (λ z. h (e ∙ sym k ∙ z)))
 
   module _ (z : v ≡ 0) {a b : Sought} (ea : a ≡ inScience sync science t) (eb : b ≡ inHealth health t) {s : Place} (ec : s ≡ shown a b) where
     es : s ≡ found
     es = ec ∙ ap₂ shown ea eb
 
-    last-verdict : (b : Bool) → eqb (s .recording) 0 ≡ b → verdict (lastCauses sync science health t) ≡ cond b 2 0
+    last-verdict : (b : Bool) → eqb (s .recording) 0 ≡ b → verdict (lastCauses sync science health t) ≡ cond b nothingThere 0
     last-verdict b eb =
-        late arguments neither refl (sym e ∙ z)
-        ∙ ap (λ (x : Bool). cond x 2 0) (sym (ap (λ (x : Place). eqb (x .recording) 0) es) ∙ eb)
+        verdict-last arguments neither refl (sym e ∙ z)
+        ∙ ap (λ (x : Bool). cond x nothingThere 0) (sym (ap (λ (x : Place). eqb (x .recording) 0) es) ∙ eb)
 
-    pub none : s .recording ≡ 0 → place 2 0 0 ≡ lastPlaceReply sync science health t
+    pub none-refused : s .recording ≡ 0 → refused nothingThere ≡ lastPlaceReply sync science health t
     unfolding lastPlaceReply
-    none h =
+    none-refused h =
         let k = last-verdict true (eq-eqb _ _ h) in
-        ap (λ (n : ℕ). place n 0 0) (sym k) ∙ sym (answer-no _ _ found (λ q. absurd (omega (arith, sym k ∙ q))))
+        ap refused (sym k) ∙ sym (answer-no _ _ found (λ q. absurd (omega (arith, sym k ∙ q))))
 
-    pub there : (s .recording ≡ 0 → ⊥) → s ≡ lastPlaceReply sync science health t
+    pub found-shown : (s .recording ≡ 0 → ⊥) → s ≡ lastPlaceReply sync science health t
     unfolding lastPlaceReply
-    there h = es ∙ sym (answer-yes _ _ found (last-verdict false (ne-eqb _ _ h)))
+    found-shown h = es ∙ sym (answer-yes _ _ found (last-verdict false (ne-eqb _ _ h)))
 
 -- ---- the part that is shown
 

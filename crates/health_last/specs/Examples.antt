@@ -12,7 +12,7 @@ use Rattle.health.specs.Packet.{packetCrc, soundPacket}
 use Rattle.health.specs.Writing.{writtenCrc, packetFrom}
 use Rattle.health_last.specs.declared.Place.{Place}
 use Rattle.health_last.specs.Packets.{packetPlaces, chunkPlaces, placesOf, soundOf, lastWhere}
-use Rattle.health_last.specs.Last.{place, lastCauses, lastPlaceReply}
+use Rattle.health_last.specs.Last.{place, refused, lastCauses, lastPlaceReply}
 
 -- a packet of this type
 packet : ℕ → List ℕ
@@ -33,7 +33,7 @@ unfolding asked packet lastPlaceReply answer lastWhere packetPlaces chunkPlaces 
 other = refl
 
 -- a packet in no listed health chunk does not count; the last of two is at place 32
-unlisted : (asked (packet 4) [] ≡ place 2 0 0) × (asked (packet 4) (packet 4 ++ packet 4) ≡ place 0 2 32)
+unlisted : (asked (packet 4) [] ≡ refused 2) × (asked (packet 4) (packet 4 ++ packet 4) ≡ place 0 2 32)
 unfolding asked packet lastPlaceReply answer lastWhere packetPlaces chunkPlaces placesOf soundOf soundPacket packetCrc writtenCrc crcBit crcStep listed confirmed headed ends legal legalSize
 unlisted = (refl, refl)
 

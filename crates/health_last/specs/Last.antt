@@ -1,10 +1,10 @@
--- Document 01, "Health packets": the answer about the last sound packet of a type.
+-- FORMAT, "Health packets": the answer about the last sound packet of a type.
 use Prim.Native.Nat.{ℕ, _%_}
 use mathlib.Core.Bool.{Bool, cond, not, _&&_, _||_}
 use mathlib.Core.List.{List, [], _∷_, _++_}
 use lib.ListN.{length, take, drop}
-use lib.Dec.{leb, ltb, eqb}
-use Rattle.base.specs.Limit.{recordingLimit, healthLimit}
+use lib.Dec.{leb, eqb}
+use Rattle.base.specs.Limit.{tooLong, healthLimit}
 use Rattle.base.specs.Refusal.{Causes, verdict, answer, wrongArgument, wrongLength, nothingThere}
 use Rattle.health_last.specs.declared.Sought.{Sought}
 use Rattle.health_last.specs.declared.Sought.the-variants.{At, Nowhere}
@@ -19,6 +19,10 @@ inHealth health t = lastWhere (soundOf health t) (healthPlaces health)
 
 abbrev pub place : ℕ → ℕ → ℕ → Place
 place v recording at = record { refusal = v; recording = recording; at = record { 0 = at } }
+
+-- a refusal has zeros
+abbrev pub refused : ℕ → Place
+refused v = place v 0 0
 
 -- The rule for which packet is shown: the science recording's (1), or, if that holds none, the health recording's (2).
 abbrev pub shown : Sought → Sought → Place
@@ -35,18 +39,19 @@ abbrev pub healthLength : ℕ → Bool
 healthLength n = eqb (n % 32) 0 && leb n healthLimit
 
 -- a type that cannot be asked for; either recording too long, or the health recording no packets back to back
-abbrev pub argumentCauses : ℕ → ℕ → ℕ → Causes
-argumentCauses n m t = (wrongArgument, not (askedType t)) ∷ (wrongLength, ltb recordingLimit n || not (healthLength m)) ∷ []
+abbrev pub argumentCauses : List ℕ → List ℕ → ℕ → Causes
+argumentCauses science health t =
+    (wrongArgument, not (askedType t)) ∷ (wrongLength, tooLong science || not (healthLength (length health))) ∷ []
 
 -- these, and last that neither recording has one
 abbrev pub lastCauses : ℕ → List ℕ → List ℕ → ℕ → Causes
 lastCauses sync science health t =
-    argumentCauses (length science) (length health) t ++ (nothingThere, eqb (shown (inScience sync science t) (inHealth health t) .recording) 0) ∷ []
+    argumentCauses science health t ++ (nothingThere, eqb (shown (inScience sync science t) (inHealth health t) .recording) 0) ∷ []
 
 -- which recording the packet is shown of, and its place there
 unfoldable pub lastPlaceReply : ℕ → List ℕ → List ℕ → ℕ → Place
 lastPlaceReply sync science health t =
-    answer (verdict (lastCauses sync science health t)) (λ v. place v 0 0) (shown (inScience sync science t) (inHealth health t))
+    answer (verdict (lastCauses sync science health t)) refused (shown (inScience sync science t) (inHealth health t))
 
 -- the 32 words at a place of one of the two; no words where nothing is shown
 unfoldable pub partAt : Place → List ℕ → List ℕ → List ℕ

@@ -1,4 +1,4 @@
--- Document 01, "Health packets": where packets stand in the two recordings, and the last sound one of a type.
+-- FORMAT, "Health packets": where packets stand in the two recordings, and the last sound one of a type.
 use Prim.Native.Nat.{ℕ, zero, suc, _+_, _/_}
 use mathlib.Core.Bool.{Bool, cond, _&&_}
 use mathlib.Core.List.{List, [], _∷_, _++_}

@@ -9,7 +9,7 @@ ghost use mathlib.Core.Path.{_≡_};
 ghost use Prim.Native.Nat.{_+_, _≤_};
 ghost use lib.ListN.{length, take, drop};
 ghost use Rattle.base.specs.Refusal.{verdict};
-ghost use Rattle.health_last.specs.Last.{argumentCauses, place, shown, lastPlaceReply, lastPacketReply};
+ghost use Rattle.health_last.specs.Last.{argumentCauses, refused, shown, lastPlaceReply, lastPacketReply};
 
 // The place of a packet that was looked for.
 pub enum Sought {
@@ -25,15 +25,16 @@ pub struct Place {
 }
 
 // What the arguments alone refuse.
-fn judge(science: usize, health: usize, packet_type: u16) -> u8
-    ensures { λ r. ⌜ r ≡ verdict (argumentCauses science health «packet_type») ⌝ }
+fn judge(science: &[u16], health: &[u16], packet_type: u16) -> u8
+    ensures { λ r. ⌜ r ≡ verdict (argumentCauses (now (science .entry)) (now (health .entry)) «packet_type») ⌝ }
 {
     let asked = (1 <= packet_type) & (packet_type <= 15);
-    let packets = (health % packet::SIZE == 0) & (health <= limit::HEALTH_RECORDING);
+    let words = health.len();
+    let packets = (words % packet::SIZE == 0) & (words <= limit::HEALTH_RECORDING);
     refusal::cause(
         refusal::ARGUMENT,
         !asked,
-        refusal::cause(refusal::LENGTH, (limit::RECORDING < science) | !packets, 0),
+        refusal::cause(refusal::LENGTH, limit::too_long(science) | !packets, 0),
     )
 }
 
@@ -59,7 +60,7 @@ fn choose(science: Sought, health: Sought) -> Place
 }
 
 fn refused(number: u8) -> Place
-    ensures { λ r. ⌜ r ≡ place number 0 0 ⌝ }
+    ensures { λ r. ⌜ r ≡ refused number ⌝ }
 {
     Place {
         refusal: number,
@@ -72,7 +73,7 @@ fn refused(number: u8) -> Place
 pub fn last_place(science: &[u16], sync: u16, health: &[u16], packet_type: u16) -> Place
     ensures { λ r. ⌜ r ≡ lastPlaceReply sync (now (science .entry)) (now (health .entry)) «packet_type» ⌝ }
 {
-    let verdict = judge(science.len(), health.len(), packet_type);
+    let verdict = judge(science, health, packet_type);
     if verdict != 0 {
         return refused(verdict);
     }

@@ -73,12 +73,12 @@ pub fn in_science(words: &[u16], sync: u16, packet_type: u16) -> Sought
     let mut at: usize = 0;
     loop {
         let found = search::next(words, sync, Words(at));
-        let Found::Chunk(entry) = found else {
+        let Found::Chunk(entry, next) = found else {
             return last;
         };
         let begins = entry.position.0;
         let header = entry.header;
         last = latest(in_chunk(words, packet_type, begins, header), last);
-        at = begins + header::HEADER + header::size_of(header).0;
+        at = next.0;
     }
 }

@@ -13,10 +13,11 @@ use Rattle.chunk.specs.Header.{kind}
 use Rattle.chunk.specs.Reading.{nextFrom, listedWords}
 use Rattle.chunk.proofs.Steps.{Next, stepped, past, found-end}
 use Rattle.frame.specs.declared.Piece.{Piece}
-use Rattle.frame.specs.Shape.{starts, startsFrame, frameWords}
+use Rattle.frame.specs.Shape.{starts, frameWords}
+use Rattle.frame.specs.Walk.{startsFrame}
 use Rattle.frame.specs.Pieces.{nextPiece}
-use Rattle.frame.proofs.Stepping.{none, passed, framed, strayed, frame-starts}
-use Rattle.frame.proofs.Walking.{frame-is, ends}
+use Rattle.frame.proofs.pieces.Stepping.{no-piece, health-passed, frame-next, stray-next, frame-starts}
+use Rattle.frame.proofs.Walking.{first-and-ahead, frame-ends-inside}
 
 -- a place to go on from
 abbrev On : List ℕ → ℕ → ℕ → Type 0
@@ -38,28 +39,28 @@ frame-on : (sync : ℕ) (ws : List ℕ) (p : ℕ) (e : Entry) → Next sync ws p
 unfolding listedWords
 frame-on sync ws p e n s =
     let q : ℕ = e .position .0 in
-    (omega (arith, n .ahead, ap listedWords (frame-is sync (drop q ws) s)), omega (arith, n .within, ends sync (drop q ws) s, length-drop q ws))
+    (omega (arith, n .ahead, ap listedWords (first-and-ahead sync (drop q ws) s)), omega (arith, n .within, frame-ends-inside sync (drop q ws) s, length-drop q ws))
 
 module _ (sync : ℕ) (ws : List ℕ) where
   ahead-from : (k p : ℕ) → length ws ≤ p + k → Ahead ws p (nextPiece sync ws p)
-  ahead-from zero p h = subst (Ahead ws p) (sym (none sync ws p (found-end sync ws p (omega arith)))) tt
+  ahead-from zero p h = subst (Ahead ws p) (sym (no-piece sync ws p (found-end sync ws p (omega arith)))) tt
   ahead-from (suc k) p h = by-found (ahead-from k) (nextFrom sync ws p) refl
     where
       by-found : ((q : ℕ) → length ws ≤ q + k → Ahead ws q (nextPiece sync ws q)) → (f : Found) → nextFrom sync ws p ≡ f → Ahead ws p (nextPiece sync ws p)
-      by-found more Found.End f = subst (Ahead ws p) (sym (none sync ws p f)) tt
+      by-found more Found.End f = subst (Ahead ws p) (sym (no-piece sync ws p f)) tt
       by-found more (Found.Chunk e) f = by-kind (eqb (kind (e .header)) 0) refl
         where
           n : Next sync ws p e
           n = stepped sync ws p e f
 
           by-start : kind (e .header) ≡ 0 → (b : Bool) → starts (e .header) ≡ b → Ahead ws p (nextPiece sync ws p)
-          by-start z true s = subst (Ahead ws p) (sym (framed sync ws p e n z s)) (frame-on sync ws p e n (frame-starts sync ws p e n s))
-          by-start z false s = subst (Ahead ws p) (sym (strayed sync ws p e n z s)) (omega (arith, n .ahead), n .within)
+          by-start z true s = subst (Ahead ws p) (sym (frame-next sync ws p e n z s)) (frame-on sync ws p e n (frame-starts sync ws p e n s))
+          by-start z false s = subst (Ahead ws p) (sym (stray-next sync ws p e n z s)) (omega (arith, n .ahead), n .within)
 
           by-kind : (b : Bool) → eqb (kind (e .header)) 0 ≡ b → Ahead ws p (nextPiece sync ws p)
           by-kind true z = by-start (eqb-true (kind (e .header)) 0 z) (starts (e .header)) refl
           by-kind false z =
-              subst (Ahead ws p) (sym (passed sync ws p e n (eqb-false (kind (e .header)) 0 z)))
+              subst (Ahead ws p) (sym (health-passed sync ws p e n (eqb-false (kind (e .header)) 0 z)))
               (sooner ws p (past e) (omega (arith, n .ahead)) (nextPiece sync ws (past e)) (more (past e) (omega (arith, n .ahead))))
 
   pub ahead : (p : ℕ) (x : Piece) → x ≡ nextPiece sync ws p → Ahead ws p x

@@ -1,4 +1,4 @@
-// The lines of a listing, one function for each; false where a line could not be written.
+// The lines of a listing, one function for each. A line is gathered on the page; the caller writes the last page.
 use base::Words;
 use chunk::Entry;
 use chunk::Found;
@@ -7,112 +7,104 @@ use chunk::search;
 use frame::Frame;
 use frame::Piece;
 use frame::pieces;
-use libc::STDERR_FILENO;
-use libc::STDOUT_FILENO;
+use program_output::Out;
+use program_output::PAGE;
 
-fn text(bytes: &[u8]) -> bool {
-    io::write_all(STDOUT_FILENO, bytes)
+pub fn refused(out: Out, page: &mut [u8; PAGE], refusal: u8) -> Out {
+    out.text(page, b"refused ")
+        .number(page, refusal as usize)
+        .text(page, b"\n")
 }
 
-fn number(n: usize) -> bool {
-    io::print_decimal(STDOUT_FILENO, n as u64)
-}
-
-// What cannot be said in the listing itself.
-pub fn complaint(bytes: &[u8]) -> bool {
-    io::write_all(STDERR_FILENO, bytes)
-}
-
-pub fn refused(refusal: u8) -> bool {
-    text(b"refused ") & number(refusal as usize) & text(b"\n")
-}
-
-pub fn recording(words: &[u16], sync: u16) -> bool {
-    let survey = chunk::reading::count(words, sync);
-    text(b"recording ")
-        & number(words.len())
-        & text(b" skipped ")
-        & number(survey.skipped.0)
-        & text(b"\n")
+pub fn recording(out: Out, page: &mut [u8; PAGE], words: &[u16], sync: u16) -> Out {
+    let survey = chunk_reading::counting::count(words, sync);
+    out.text(page, b"recording ")
+        .number(page, words.len())
+        .text(page, b" skipped ")
+        .number(page, survey.skipped.0)
+        .text(page, b"\n")
 }
 
 // A chunk that starts no frame and is no health chunk is a continuation.
-fn kind(header: u16) -> bool {
+fn kind(out: Out, page: &mut [u8; PAGE], header: u16) -> Out {
     if header::kind_of(header) == 1 {
-        return text(b" health ");
+        return out.text(page, b" health ");
     }
     if header::camera_of(header) == 0 {
-        return text(b" more ");
+        return out.text(page, b" more ");
     }
-    text(b" image ")
+    out.text(page, b" image ")
 }
 
-fn chunk(entry: Entry) -> bool {
-    let place = entry.position.0;
+fn chunk(out: Out, page: &mut [u8; PAGE], entry: Entry) -> Out {
     let word = entry.header;
-    let camera = header::camera_of(word) as usize;
-    let size = header::size_of(word).0;
-    number(place) & kind(word) & number(camera) & text(b" ") & number(size) & text(b"\n")
+    let placed = out.number(page, entry.position.0);
+    kind(placed, page, word).number(page, header::camera_of(word) as usize)
+        .text(page, b" ")
+        .number(page, header::size_of(word).0)
+        .text(page, b"\n")
 }
 
 // A line for each listed chunk.
-pub fn chunks(words: &[u16], sync: u16) -> bool {
+pub fn chunks(out: Out, page: &mut [u8; PAGE], words: &[u16], sync: u16) -> Out {
+    let mut said = out;
     let mut at: usize = 0;
     loop {
         let found = search::next(words, sync, Words(at));
         let Found::Chunk(entry) = found else {
-            return true;
+            return said;
         };
-        if !chunk(entry) {
-            return false;
-        }
+        said = chunk(said, page, entry);
         at = entry.position.0 + header::HEADER + header::size_of(entry.header).0;
     }
 }
 
-fn frame(place: Words, frame: Frame) -> bool {
-    let begun = text(b"frame ")
-        & number(place.0)
-        & text(b" camera ")
-        & number(frame.camera as usize)
-        & text(b" chunks ")
-        & number(frame.chunks);
+fn frame(out: Out, page: &mut [u8; PAGE], place: Words, frame: Frame) -> Out {
+    let begun = out.text(page, b"frame ")
+        .number(page, place.0)
+        .text(page, b" camera ")
+        .number(page, frame.camera as usize)
+        .text(page, b" chunks ")
+        .number(page, frame.chunks);
     if frame.complete {
-        return begun & text(b" complete\n");
+        return begun.text(page, b" complete\n");
     }
-    begun & text(b" cut\n")
+    begun.text(page, b" cut\n")
 }
 
-fn stray(place: Words) -> bool {
-    text(b"stray ") & number(place.0) & text(b"\n")
+fn stray(out: Out, page: &mut [u8; PAGE], place: Words) -> Out {
+    out.text(page, b"stray ")
+        .number(page, place.0)
+        .text(page, b"\n")
 }
 
 // A line for each frame and each stray continuation.
-pub fn frames_and_strays(words: &[u16], sync: u16) -> bool {
+pub fn frames_and_strays(out: Out, page: &mut [u8; PAGE], words: &[u16], sync: u16) -> Out {
+    let mut said = out;
     let mut at: usize = 0;
     loop {
         let piece = pieces::next(words, sync, Words(at));
         match piece {
             Piece::Whole(place, framed, next) => {
-                if !frame(place, framed) {
-                    return false;
-                }
+                said = frame(said, page, place, framed);
                 at = next.0;
             }
             Piece::Stray(place, next) => {
-                if !stray(place) {
-                    return false;
-                }
+                said = stray(said, page, place);
                 at = next.0;
             }
             Piece::End => {
-                return true;
+                return said;
             }
         }
     }
 }
 
-pub fn runs(words: &[u16], sync: u16) -> bool {
+pub fn runs(out: Out, page: &mut [u8; PAGE], words: &[u16], sync: u16) -> Out {
     let outline = chunk_outline::outline(words, sync);
-    text(b"runs ") & number(outline.image) & text(b" ") & number(outline.health) & text(b"\n")
+    out.text(page, b"runs ")
+        .number(page, outline.image)
+        .text(page, b" ")
+        .number(page, outline.health)
+        .text(page, b"\n")
 }

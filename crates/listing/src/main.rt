@@ -1,43 +1,62 @@
-// The listing of a recording. It reads the sync word and the recording from standard input, and writes document 01's lines; what they say is the
-// library's.
-mod input;
+// The listing of a recording. It reads the sync word and the recording from standard input, and writes the lines of FORMAT, "Listing program"; what they
+// say is the library's.
 mod lines;
 
+use base::Words;
+use base::limit;
+use libc::STDERR_FILENO;
+use libc::STDIN_FILENO;
+use libc::STDOUT_FILENO;
+use program_output::Out;
+use program_output::PAGE;
 ghost use Prim.Native.Nat.{_≤_};
 ghost use lib.ListN.{length};
 
-// All lines, for words of which the first is the sync word; false where one could not be written.
-fn list(words: &[u16]) -> bool
+// the sync word, and a recording at the limit
+const WORDS: usize = 1 + limit::LISTING_RECORDING;
+
+// room for these, and one byte more by which a longer input shows
+const ROOM: usize = 2 * WORDS + 1;
+
+// All lines, for words of which the first is the sync word.
+fn list(out: Out, page: &mut [u8; PAGE], words: &[u16]) -> Out
     requires { ⌜ 1 ≤ length (now words) ⌝ }
 {
     let sync = words[0];
     let recording = &words[1..];
-    lines::recording(recording, sync)
-        & lines::chunks(recording, sync)
-        & lines::frames_and_strays(recording, sync)
-        & lines::runs(recording, sync)
+    let begun = lines::recording(out, page, recording, sync);
+    let listed = lines::chunks(begun, page, recording, sync);
+    let framed = lines::frames_and_strays(listed, page, recording, sync);
+    lines::runs(framed, page, recording, sync)
 }
 
-// The answer to an input; false where it could not be written.
-fn answer(bytes: &[u8]) -> bool {
-    let mut words = [0u16; input::WORDS];
-    let reply = program_input::words(bytes, &mut words);
+// The answer to an input.
+fn answer(out: Out, page: &mut [u8; PAGE], bytes: &[u8]) -> Out {
+    let mut words = [0u16; WORDS];
+    let reply = program_input::words(bytes, Words(limit::LISTING_RECORDING), &mut words);
     if reply.refusal != 0 {
-        return lines::refused(reply.refusal);
+        return lines::refused(out, page, reply.refusal);
     }
     let length = reply.length.0;
-    list(&words[..length])
+    list(out, page, &words[..length])
+}
+
+// What cannot be said in the listing itself.
+fn complaint(bytes: &[u8]) {
+    io::write_all(STDERR_FILENO, bytes);
 }
 
 fn main() {
-    let mut bytes = [0u8; input::ROOM];
-    let taken = input::take(&mut bytes);
+    let mut bytes = [0u8; ROOM];
+    let taken = program_reading::take(STDIN_FILENO, &mut bytes);
     if taken.failed {
-        lines::complaint(b"listing: standard input cannot be read\n");
+        complaint(b"listing: standard input cannot be read\n");
         return;
     }
     let count = taken.count.0;
-    if !answer(&bytes[..count]) {
-        lines::complaint(b"listing: standard output cannot be written\n");
+    let mut page = [0u8; PAGE];
+    let out = answer(Out::to(STDOUT_FILENO), &mut page, &bytes[..count]);
+    if out.flush(&page).failed {
+        complaint(b"listing: standard output cannot be written\n");
     }
 }

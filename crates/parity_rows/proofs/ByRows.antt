@@ -3,18 +3,19 @@
 use mathlib.Core.Path.{_≡_, refl, sym, ap, ap₂, _∙_, subst}
 use mathlib.Core.List.{List, [], _∷_}
 use Prim.Native.Nat.{ℕ, suc, _+_, _-_, _*_, _/_, _%_, _^_, _<_, _≤_}
-use native.Mathlib.Nat.{add-mul, mul-assoc, mul-comm, mul-one, div-one, pow-suc}
+use native.Mathlib.Nat.{add-zero, add-mul, mul-assoc, mul-comm, mul-one, div-one, add-sub-of-le, pow-suc}
 use native.Mathlib.Numerals.{add-one, one-add}
 use native.Mathlib.Omega.{arith}
 use lib.Pow.{high, low, shl-lt}
-use lib.Bits.{xor-shifted}
+use lib.Bits.{xor-zero-r, xor-shifted}
 use lib.Count.{ones}
+use lib.ListN.{length}
 use Rattle.base.specs.Xor.{_⊕_}
 use Rattle.parity_rows.specs.declared.Sums.{Sums}
 use Rattle.parity_rows.specs.Parity.{xorAll, number, bitFrom, rowParity, columnParity, rowWord, columnWord, parityWords, sums, parities}
 use Rattle.parity_rows.specs.ByRows.{rowOf, sumsOf, oneMore}
-use Rattle.parity_rows.proofs.Folds.{xor-more, number-more, number-parts, number-lt, number-xorAll, xorAll-lt}
-use Rattle.parity_rows.proofs.Words.{from-lt}
+use Rattle.parity_rows.proofs.Folds.{xor-more, number-more, xor-parts, number-parts, xor-none, number-none, number-lt, number-xorAll, xorAll-lt}
+use Rattle.parity_rows.proofs.Words.{from-lt, from-past}
 use Rattle.parity_rows.proofs.Ones.{odd-ones}
 
 pub row-lt : (d : List ℕ) (r : ℕ) → rowParity d r < 2
@@ -54,6 +55,28 @@ next-sums d n h p q r =
     ∙ ap (λ (x : ℕ). x * 2 ^ (64 - suc n)) (sym (number-more n (rowParity d))))
     (sym (xor-more n (rowOf d)))
     ∙ ap (sumsOf d) (sym (add-one n))
+
+-- ---- rows past the data are 0
+
+module _ (d : List ℕ) (r : ℕ) (h : length d ≤ 4 * r) where
+  past-row : rowOf d r ≡ 0
+  past-row = number-none 64 (bitFrom d (4 * r)) (λ c. from-past d (4 * r) c h)
+
+  past-odd : rowParity d r ≡ 0
+  unfolding rowParity
+  past-odd = xor-none 64 (bitFrom d (4 * r)) (λ c. from-past d (4 * r) c h)
+
+-- so the sums of n rows that hold all the data are those of all 64
+pub enough-rows : (d : List ℕ) (n : ℕ) → n ≤ 64 → length d ≤ 4 * n → sumsOf d n ≡ sumsOf d 64
+enough-rows d n all enough =
+    let m : n + (64 - n) ≡ 64 = add-sub-of-le all in
+    ap₂ sums
+    (sym (mul-one (number 64 (rowParity d)) ∙ ap (λ (x : ℕ). number x (rowParity d)) (sym m) ∙ number-parts n (64 - n) (rowParity d)
+    ∙ ap (λ (x : ℕ). number n (rowParity d) * 2 ^ (64 - n) + x) (number-none (64 - n) (λ i. rowParity d (n + i)) (λ i. past-odd d (n + i) (omega arith)))
+    ∙ add-zero (number n (rowParity d) * 2 ^ (64 - n))))
+    (sym (ap (λ (x : ℕ). xorAll x (rowOf d)) (sym m) ∙ xor-parts n (64 - n) (rowOf d)
+    ∙ ap (λ (x : ℕ). xorAll n (rowOf d) ⊕ x) (xor-none (64 - n) (λ i. rowOf d (n + i)) (λ i. past-row d (n + i) (omega arith)))
+    ∙ xor-zero-r (xorAll n (rowOf d))))
 
 -- of all 64 rows
 pub all-rows : (d : List ℕ) → sumsOf d 64 ≡ parities d

@@ -3,10 +3,10 @@ use mathlib.Core.Path.{_≡_, sym, ap, ap₂, _∙_}
 use mathlib.Core.Bool.{Bool}
 use mathlib.Core.List.{List}
 use Prim.Native.Nat.{ℕ, suc, _+_, _-_, _*_, _/_, _%_, _^_, _<_, _≤_}
-use native.Mathlib.Nat.{mod-lt, zero-add, add-zero}
+use native.Mathlib.Nat.{mod-lt, zero-add, add-zero, zero-div}
 use native.Mathlib.Omega.{arith}
 use lib.Dec.{eqb, eqb→eq, lit<}
-use lib.ListN.{replicate, getD}
+use lib.ListN.{length, replicate, getD, List·getD-eq-default}
 use Rattle.base.specs.Number.{bitOf}
 use Rattle.base.proofs.XorLaws.{xor-bit}
 use Rattle.base.proofs.Linear.{Linear, agree, same}
@@ -42,6 +42,12 @@ word-bits w h =
 pub from-lt : (ws : List ℕ) (w i : ℕ) → bitFrom ws w i < 2
 unfolding bitFrom
 from-lt ws w i = bit-lt (getD ws (w + i / 16) 0) (15 - i % 16)
+
+-- past the end all is 0
+pub from-past : (ws : List ℕ) (w i : ℕ) → length ws ≤ w → bitFrom ws w i ≡ 0
+unfolding bitFrom bitOf
+from-past ws w i h =
+    ap (λ (x : ℕ). x / 2 ^ (15 - i % 16) % 2) (List·getD-eq-default ws 0 {n = w + i / 16} (omega arith)) ∙ ap (λ (x : ℕ). x % 2) (zero-div (2 ^ (15 - i % 16)))
 
 -- bit 16 j + i from a word on is digit i of the j-th word after it
 pub from-digit : (ws : List ℕ) (w j i : ℕ) → i < 16 → bitFrom ws w (16 * j + i) ≡ digit (getD ws (w + j) 0) i

@@ -44,7 +44,7 @@ fn add(s: Sums, w: u64, r: usize) -> Sums
     }
 }
 
-// The parity of every row and every column of the data.
+// The parity of every row and every column of the data: rows past its end add nothing.
 pub fn parity(data: &[u16]) -> Sums
     ensures { λ s. ⌜ s ≡ parities (now («data» .entry)) ⌝ }
 {
@@ -54,6 +54,9 @@ pub fn parity(data: &[u16]) -> Sums
     };
     let mut r = 0;
     while r < 64 {
+        if data.len() <= 4 * r {
+            return s;
+        }
         s = add(s, bits_from(data, 4 * r), r);
         r += 1;
     }

@@ -14,7 +14,7 @@ use Rattle.base.specs.declared.Written.{Written}
 use Rattle.base.proofs.Refused.{spared, answer-no, answer-yes, settled-refusal}
 use Rattle.base.proofs.RoomLaws.{put-length}
 use Rattle.base.proofs.Pasting.{Pasted, turn}
-use Rattle.program_input.specs.Input.{wordsOf, inputMost, wordsCauses, wordsReply, wordsRoom}
+use Rattle.program_input.specs.Input.{wordsOf, wordsCauses, wordsReply, wordsRoom}
 
 pub words-length : (bytes : List ℕ) → length (wordsOf bytes) ≡ length bytes / 2
 unfolding wordsOf
@@ -40,12 +40,12 @@ joined bytes room₀ room i w p h e =
     let l : length (wordsOf bytes) ≡ length bytes / 2 = words-length bytes in
     rw (zero-add, word-at bytes i (omega arith), ← e) at (turn (wordsOf bytes) room₀ 0 room i p (omega arith))
 
-module _ (bytes room : List ℕ) (r : Written) (e : r ≡ wordsReply (length bytes) (length room)) where
-  number : r .refusal ≡ verdict (wordsCauses (length bytes) (length room))
+module _ (bytes : List ℕ) (most : ℕ) (room : List ℕ) (r : Written) (e : r ≡ wordsReply (length bytes) most (length room)) where
+  number : r .refusal ≡ verdict (wordsCauses (length bytes) most (length room))
   unfolding wordsReply
-  number = ap (λ (x : Written). x .refusal) e ∙ settled-refusal (verdict (wordsCauses (length bytes) (length room))) (length bytes / 2)
+  number = ap (λ (x : Written). x .refusal) e ∙ settled-refusal (verdict (wordsCauses (length bytes) most (length room))) (length bytes / 2)
 
-  pub untouched : (r .refusal ≡ 0 → ⊥) → room ≡ wordsRoom bytes room
+  pub untouched : (r .refusal ≡ 0 → ⊥) → room ≡ wordsRoom bytes most room
   unfolding wordsRoom
   untouched h = sym (answer-no _ _ _ (λ z. h (number ∙ z)))
 
@@ -53,16 +53,16 @@ module _ (bytes room : List ℕ) (r : Written) (e : r ≡ wordsReply (length byt
     pub fits : 0 + length (wordsOf bytes) ≤ length room
     fits =
         let l : length bytes / 2 ≤ length room =
-        ltb-false (length room) (length bytes / 2) (spared (wordsCauses (length bytes) (length room)) refl (sym number ∙ z) .1 .0) in
+        ltb-false (length room) (length bytes / 2) (spared (wordsCauses (length bytes) most (length room)) refl (sym number ∙ z) .1 .0) in
         omega (arith, words-length bytes)
 
-    pub given : (d : List ℕ) → d ≡ put (wordsOf bytes) 0 room → d ≡ wordsRoom bytes room
+    pub written : (d : List ℕ) → d ≡ put (wordsOf bytes) 0 room → d ≡ wordsRoom bytes most room
     unfolding wordsRoom
-    given d ed = ed ∙ sym (answer-yes _ _ _ (sym number ∙ z))
+    written d ed = ed ∙ sym (answer-yes _ _ _ (sym number ∙ z))
 
-pub after-length : (bytes room : List ℕ) → length (wordsRoom bytes room) ≡ length room
+pub room-length : (bytes : List ℕ) (most : ℕ) (room : List ℕ) → length (wordsRoom bytes most room) ≡ length room
 unfolding wordsRoom answer
-after-length bytes room = by-test (eqb (verdict (wordsCauses (length bytes) (length room))) 0)
+room-length bytes most room = by-test (eqb (verdict (wordsCauses (length bytes) most (length room))) 0)
   where
     by-test : (b : Bool) → length (cond b (put (wordsOf bytes) 0 room) room) ≡ length room
     by-test true = put-length (wordsOf bytes) 0 room
@@ -78,14 +78,14 @@ or-second true false e = refl
 or-second false b e = e
 
 -- an input that is taken has a word at the least, and no more than the room
-pub taken : (n m : ℕ) (r : Written) → r ≡ wordsReply n m → r .refusal ≡ 0 → (1 ≤ r .length .0) × (r .length .0 ≤ m)
+pub accepted-length : (n most m : ℕ) (r : Written) → r ≡ wordsReply n most m → r .refusal ≡ 0 → (1 ≤ r .length .0) × (r .length .0 ≤ m)
 unfolding wordsReply settled
-taken n m r e z =
-    let v : ℕ = verdict (wordsCauses n m) in
+accepted-length n most m r e z =
+    let v : ℕ = verdict (wordsCauses n most m) in
     let none : v ≡ 0 = sym (ap (λ (x : Written). x .refusal) e ∙ settled-refusal v (n / 2)) ∙ z in
     let l : r .length .0 ≡ n / 2 = ap (λ (x : Written). x .length .0) (e ∙ answer-yes v (λ x. wrote x 0) (wrote 0 (n / 2)) none) in
-    let spare = spared (wordsCauses n m) refl none in
-    let low : eqb (n % 2) 1 || eqb n 0 ≡ false = or-first (eqb (n % 2) 1 || eqb n 0) (ltb inputMost n) (spare .0) in
+    let spare = spared (wordsCauses n most m) refl none in
+    let low : eqb (n % 2) 1 || eqb n 0 ≡ false = or-first (eqb (n % 2) 1 || eqb n 0) (ltb (2 * (1 + most)) n) (spare .0) in
     let odd : eqb (n % 2) 1 ≡ false = or-first (eqb (n % 2) 1) (eqb n 0) low in
     let some : eqb n 0 ≡ false = or-second (eqb (n % 2) 1) (eqb n 0) low in
     let fit : n / 2 ≤ m = ltb-false m (n / 2) (spare .1 .0) in

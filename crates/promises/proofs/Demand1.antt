@@ -5,8 +5,9 @@ use mathlib.Core.List.{List, []}
 use lib.ListN.{length}
 use Rattle.base.specs.Refusal.{Causes, verdict, answer, settled}
 use Rattle.base.proofs.Refused.{answer-no}
-use Rattle.chunk.specs.Replies.{surveyCauses, atCauses}
-use Rattle.chunk.specs.Writing as chunk
+use Rattle.chunk_reading.specs.Counting.{surveyCauses}
+use Rattle.chunk_reading.specs.Place.{atCauses}
+use Rattle.chunk_writing.specs.Writing as chunk
 use Rattle.parity.specs.Unit as parity
 use Rattle.health.specs.Reading as packet
 use Rattle.health.specs.Writing as health
@@ -18,10 +19,10 @@ use Rattle.command_reading.specs.Reading as commandReading
 use Rattle.command_writing.specs.Writing as commandWriting
 use Rattle.chunk_register.specs.Register as register
 use Rattle.chunk_outline.specs.Outline as outline
-use Rattle.frame.specs.Replies as frame
-use Rattle.program_input.specs.Input as listing
+use Rattle.frame_reading.specs.Replies as frame
+use Rattle.program_input.specs.Input as input
 use Rattle.reel.specs.Reading as reelReading
-use Rattle.reel.specs.Writing as reelWriting
+use Rattle.reel_writing.specs.Writing as reelWriting
 use Rattle.health_last.specs.declared.Place.{Place}
 use Rattle.promises.specs.Demand1.{Determined, Ordered, Refuses, Spares, Refusing}
 
@@ -52,7 +53,7 @@ ordered =
       readFrame = λ sync p m ws. refl;
       writeReel = λ sync m ws. refl;
       readReel = λ sync r. refl;
-      listingInput = λ n m. refl;
+      inputWords = λ n most m. refl;
     }
 
 -- a refusal is what `answer` gives where the verdict is not 0
@@ -68,7 +69,7 @@ unfolding last.partAt
 no-part v science health = refl
 
 pub refusing : Refusing
-unfolding settled chunk.writeRoom register.listReply register.listRoom outline.outlineReply parity.writeVerdict parity.writeReply parity.writeRoom parity.judgeVerdict parity.judgeReply parity.checkVerdict parity.checkReply parity.checkRoom packet.readReply health.writeRoom observation.observationReply checksums.checksumsReply upsets.upsetsReply last.lastPlaceReply commandReading.readReply commandReading.given commandReading.furtherReply commandWriting.settled commandWriting.writeReply commandWriting.writeRoom frame.atReply frame.judgeReply frame.readReply frame.readRoom reelWriting.writeReply reelWriting.writeRoom reelReading.readReply listing.wordsReply listing.wordsRoom
+unfolding settled chunk.writeRoom register.listReply register.listRoom outline.outlineReply parity.writeVerdict parity.writeReply parity.writeRoom parity.judgeVerdict parity.judgeReply parity.checkVerdict parity.checkReply parity.checkRoom packet.readReply health.writeRoom observation.observationReply checksums.checksumsReply upsets.upsetsReply last.lastPlaceReply commandReading.readReply commandReading.given commandReading.furtherReply commandWriting.settled commandWriting.writeReply commandWriting.writeRoom frame.atReply frame.judgeReply frame.readReply frame.readRoom reelWriting.writeReply reelWriting.writeRoom reelReading.readReply input.wordsReply input.wordsRoom
 refusing =
     record {
       survey = λ sync ws. refuses (surveyCauses ws) _ _;
@@ -104,6 +105,6 @@ refusing =
       writeReel = λ sync m ws. refuses (reelWriting.writeCauses sync ws m) _ _;
       reelRoom = λ sync ws room. spares (reelWriting.writeCauses sync ws (length room)) _ _;
       readReel = λ sync r. refuses (reelReading.readCauses sync r) _ _;
-      listingInput = λ n m. refuses (listing.wordsCauses n m) _ _;
-      inputRoom = λ bytes room. spares (listing.wordsCauses (length bytes) (length room)) _ _;
+      inputWords = λ n most m. refuses (input.wordsCauses n most m) _ _;
+      inputRoom = λ most bytes room. spares (input.wordsCauses (length bytes) most (length room)) _ _;
     }

@@ -7,7 +7,7 @@ use Rattle.base.specs.Room.{put}
 use Rattle.crc.specs.Crc.{crcBit, crcStep}
 use Rattle.chunk.specs.Header.{legalSize, legal, headed, ends, confirmed}
 use Rattle.chunk.specs.Reading.{listed, skippedFrom}
-use Rattle.chunk.specs.Replies.{surveyed, surveyReply}
+use Rattle.chunk_reading.specs.Counting.{surveyed, surveyReply}
 use Rattle.base.specs.Number.{bitOf}
 use Rattle.parity_rows.specs.Parity.{xorAll, number, bitFrom, rowParity, columnParity, rowWord, columnWord, parityWords}
 use Rattle.parity.specs.Unit.{unitOf, flipped, rowDiffers, columnDiffers, sumAll, firstOf, fiveCases, finding, unitData, checkVerdict, writeVerdict, reply, refused, checkReply, checkRoom, writeRoom}

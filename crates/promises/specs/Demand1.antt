@@ -8,8 +8,9 @@ use mathlib.Core.List.{List, []}
 use lib.ListN.{length}
 use Rattle.base.specs.Refusal.{Causes, followsPaper, verdict, wrote}
 use Rattle.chunk.specs.declared.Entry.{Entry}
-use Rattle.chunk.specs.Replies.{surveyCauses, atCauses, surveyed, surveyReply, heading, atReply, payloadReply}
-use Rattle.chunk.specs.Writing as chunk
+use Rattle.chunk_reading.specs.Counting.{surveyCauses, surveyed, surveyReply}
+use Rattle.chunk_reading.specs.Place.{atCauses, heading, atReply, payloadReply}
+use Rattle.chunk_writing.specs.Writing as chunk
 use Rattle.parity.specs.Unit as parity
 use Rattle.health.specs.Reading as packet
 use Rattle.health.specs.Writing as health
@@ -22,10 +23,10 @@ use Rattle.command_reading.specs.Reading as commandReading
 use Rattle.command_writing.specs.Writing as commandWriting
 use Rattle.chunk_register.specs.Register as register
 use Rattle.chunk_outline.specs.Outline as outline
-use Rattle.frame.specs.Replies as frame
-use Rattle.program_input.specs.Input as listing
+use Rattle.frame_reading.specs.Replies as frame
+use Rattle.program_input.specs.Input as input
 use Rattle.reel.specs.Reading as reelReading
-use Rattle.reel.specs.Writing as reelWriting
+use Rattle.reel_writing.specs.Writing as reelWriting
 
 -- ---- one answer only
 
@@ -58,7 +59,7 @@ pub record Ordered : Type 0 where
   pub readFrame : (sync p m : ℕ) (ws : List ℕ) → followsPaper (frame.readCauses sync ws p m) ≡ true
   pub writeReel : (sync m : ℕ) (ws : List ℕ) → followsPaper (reelWriting.writeCauses sync ws m) ≡ true
   pub readReel : (sync : ℕ) (r : List ℕ) → followsPaper (reelReading.readCauses sync r) ≡ true
-  pub listingInput : (n m : ℕ) → followsPaper (listing.wordsCauses n m) ≡ true
+  pub inputWords : (n most m : ℕ) → followsPaper (input.wordsCauses n most m) ≡ true
 
 -- ---- a refusal
 
@@ -104,5 +105,5 @@ pub record Refusing : Type 0 where
   pub writeReel : (sync m : ℕ) (ws : List ℕ) → Refuses (reelWriting.writeCauses sync ws m) (reelWriting.writeReply sync ws m) (λ v. wrote v 0)
   pub reelRoom : (sync : ℕ) (ws room : List ℕ) → Spares (reelWriting.writeCauses sync ws (length room)) (reelWriting.writeRoom sync ws room) room
   pub readReel : (sync : ℕ) (r : List ℕ) → Refuses (reelReading.readCauses sync r) (reelReading.readReply sync r) (λ v. reelReading.told v 0 0)
-  pub listingInput : (n m : ℕ) → Refuses (listing.wordsCauses n m) (listing.wordsReply n m) (λ v. wrote v 0)
-  pub inputRoom : (bytes room : List ℕ) → Spares (listing.wordsCauses (length bytes) (length room)) (listing.wordsRoom bytes room) room
+  pub inputWords : (n most m : ℕ) → Refuses (input.wordsCauses n most m) (input.wordsReply n most m) (λ v. wrote v 0)
+  pub inputRoom : (most : ℕ) (bytes room : List ℕ) → Spares (input.wordsCauses (length bytes) most (length room)) (input.wordsRoom bytes most room) room

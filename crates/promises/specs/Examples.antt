@@ -5,7 +5,7 @@ use mathlib.Core.Bool.{true, false}
 use mathlib.Core.List.{List, [], _∷_, map}
 use lib.ListN.{getD, replicate}
 use Rattle.chunk.specs.Header.{legalSize, legal}
-use Rattle.chunk.specs.Replies.{surveyed, surveyReply}
+use Rattle.chunk_reading.specs.Counting.{surveyed, surveyReply}
 use Rattle.crc.specs.Crc.{crcWords}
 use Rattle.parity.specs.Unit.{reply, refused, checkReply, checkRoom, writeRoom}
 use Rattle.health.specs.Writing.{packetFrom}

@@ -1,5 +1,4 @@
 pub mod Same
-pub mod Entries
-pub mod Ends
+pub mod OnReel
 pub mod Fewest
-pub mod Whole
+pub mod Reading

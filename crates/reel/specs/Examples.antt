@@ -1,4 +1,4 @@
--- Worked examples, by computation.
+-- FORMAT, "Reel": its examples, by computation.
 use mathlib.Core.Path.{_≡_, refl}
 use mathlib.Core.Bool.{true}
 use mathlib.Core.List.{List, [], _∷_}
@@ -8,17 +8,13 @@ use Rattle.crc.specs.Crc.{crcBit, crcStep}
 use Rattle.chunk.specs.Header.{legalSize, legal, headed, ends, confirmed}
 use Rattle.chunk.specs.Reading.{listed}
 use Rattle.reel.specs.Layout.{indexWords, tailWords, reelOf, reelMost}
-use Rattle.reel.specs.Writing.{writeCauses}
-use Rattle.reel.specs.Reading.{sameWords, trailerAgrees, indexAgrees, readCauses, readReply, told}
+use Rattle.reel.specs.Reading.{sameWords, trailerAgrees, indexAgrees, readCauses, readReply, told, refused}
 
--- document 01: a length outside 4 to 38,728
+-- a length outside 4 to 38,728 is refused
 longest : reelMost ≡ 38728
 longest = refl
 
--- the causes stand in the paper's order
-write-order : (sync : ℕ) (ws : List ℕ) (m : ℕ) → followsPaper (writeCauses sync ws m) ≡ true
-write-order sync ws m = refl
-
+-- the causes stand in the order of "Refusal numbers"
 read-order : (sync : ℕ) (r : List ℕ) → followsPaper (readCauses sync r) ≡ true
 read-order sync r = refl
 
@@ -43,6 +39,6 @@ unfolding reel readReply answer trailerAgrees indexAgrees sameWords indexWords l
 read = refl
 
 -- under another sync word nothing is listed, and the entry is wrong
-other : readReply 0x5AF2 reel ≡ told 13 0 0
+other : readReply 0x5AF2 reel ≡ refused 13
 unfolding reel readReply answer trailerAgrees indexAgrees sameWords indexWords listed confirmed headed legal legalSize ends crcBit crcStep
 other = refl

@@ -1,4 +1,4 @@
--- Document 01, "Reel": what stands on a reel.
+-- FORMAT, "Reel": what stands on a reel.
 use Prim.Native.Nat.{ℕ, _+_, _*_, _/_}
 use mathlib.Core.List.{List, [], _∷_, _++_}
 use lib.ListN.{length}

@@ -1,4 +1,4 @@
 pub mod Layout
-pub mod Writing
 pub mod Reading
+pub mod Within
 pub mod Examples

@@ -1,4 +1,4 @@
--- Document 01, "Reel": which reels are accepted, and what the reader answers.
+-- FORMAT, "Reel": which reels are accepted, and what the reader answers.
 use Prim.Native.Nat.{ℕ, _*_, _-_}
 use mathlib.Core.Bool.{Bool, true, false, not, _&&_, _||_}
 use mathlib.Core.List.{List, [], _∷_}
@@ -8,7 +8,6 @@ use Rattle.base.specs.Limit.{reelLimit}
 use Rattle.base.specs.Refusal.{Causes, wrongLength, wrongReel, verdict, answer}
 use Rattle.chunk.specs.Reading.{reading}
 use Rattle.reel.specs.declared.Reel.{Reel}
-use Rattle.reel.specs.declared.layout.Trailer.{Trailer}
 use Rattle.reel.specs.Layout.{entryWidth, edition, indexWords, reelCrc, reelWords, reelLeast, reelMost}
 
 -- two lists have the same words
@@ -30,10 +29,6 @@ crcOf r = getD r (length r - 2) 0
 
 abbrev pub editionOf : List ℕ → ℕ
 editionOf r = getD r (length r - 1) 0
-
--- what they say, as the code has it
-abbrev pub trailerOf : List ℕ → Trailer
-trailerOf r = record { count = countOf r; n = nOf r; crc = crcOf r; edition = editionOf r }
 
 -- the recording that the trailer tells of, and the entries between it and the trailer
 abbrev pub recordingOf : List ℕ → List ℕ
@@ -62,6 +57,10 @@ readCauses sync r = (wrongLength, ltb (length r) reelLeast || ltb reelMost (leng
 abbrev pub told : ℕ → ℕ → ℕ → Reel
 told v n count = record { refusal = v; n = record { 0 = n }; entries = count }
 
--- The reply: n and the entry count; a refusal has zeros.
+-- a refusal has zeros
+abbrev pub refused : ℕ → Reel
+refused v = told v 0 0
+
+-- The reply: n and the entry count.
 unfoldable pub readReply : ℕ → List ℕ → Reel
-readReply sync r = answer (verdict (readCauses sync r)) (λ v. told v 0 0) (told 0 (nOf r) (countOf r))
+readReply sync r = answer (verdict (readCauses sync r)) refused (told 0 (nOf r) (countOf r))

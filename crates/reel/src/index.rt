@@ -1,36 +1,29 @@
-// The index of a reel, entry by entry as the recording is read: no list of the chunks is kept.
+// The index of a reel that is read, entry by entry as the recording is read: no list of the chunks is kept.
 use crate::layout;
+use crate::trailer;
 use base::Words;
+use chunk::Entry;
 use chunk::Found;
-use chunk::header;
 use chunk::search;
 ghost use mathlib.Core.Path.{_≡_};
-ghost use Prim.Native.Nat.{_+_, _*_, _≤_};
-ghost use lib.ListN.{length};
-ghost use Rattle.base.specs.Limit.{reelLimit};
-ghost use Rattle.base.specs.Room.{put};
+ghost use lib.ListN.{take, drop};
 ghost use Rattle.chunk.specs.Reading.{reading};
-ghost use Rattle.reel.specs.Layout.{entryWidth, indexWords};
+ghost use Rattle.reel.specs.Layout.{entryWidth, entryWords, indexWords};
 ghost use Rattle.reel.specs.Reading.{sameWords};
 
-// Writes the entries of a recording into the room behind its n words, and counts them.
-pub fn write(recording: &[u16], sync: u16, room: &mut [u16]) -> usize
-    requires { ⌜ (length (now recording) ≤ reelLimit) × (length (now recording) + entryWidth * length (reading sync (now recording)) ≤ length (now room)) ⌝ }
-    ensures { λ r. ⌜ r ≡ length (reading sync (now (recording .entry))) ⌝ }
-    ensures { λ _. ⌜ now (room .exit) ≡ put (indexWords (reading sync (now (recording .entry)))) (length (now (recording .entry))) (now (room .entry)) ⌝ }
+// Whether an entry stands at a place of the index.
+fn entry_stands(index: &[u16], at: usize, entry: Entry) -> bool
+    ensures { λ r. ⌜ r ≡ sameWords (take entryWidth (drop at (now (index .entry)))) (entryWords entry) ⌝ }
 {
-    let n = recording.len();
-    let mut from = 0;
-    let mut count = 0;
-    loop {
-        let found = search::next(recording, sync, Words(from));
-        let Found::Chunk(entry) = found else {
-            return count;
-        };
-        layout::put_entry(entry, room, n + layout::ENTRY * count);
-        from = entry.position.0 + header::HEADER + header::size_of(entry.header).0;
-        count += 1;
+    if index.len() < layout::ENTRY {
+        return false;
     }
+    if index.len() - layout::ENTRY < at {
+        return false;
+    }
+    let position = entry.position.0;
+    let header = entry.header;
+    (trailer::wide(index[at]) == position) & (index[at + 1] == header)
 }
 
 // Whether these words are the entries of a recording.
@@ -41,13 +34,13 @@ pub fn agrees(recording: &[u16], sync: u16, index: &[u16]) -> bool
     let mut at = 0;
     loop {
         let found = search::next(recording, sync, Words(from));
-        let Found::Chunk(entry) = found else {
+        let Found::Chunk(entry, next) = found else {
             return at == index.len();
         };
-        if !layout::entry_stands(index, at, entry) {
+        if !entry_stands(index, at, entry) {
             return false;
         }
-        from = entry.position.0 + header::HEADER + header::size_of(entry.header).0;
+        from = next.0;
         at += layout::ENTRY;
     }
 }

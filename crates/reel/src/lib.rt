@@ -1,15 +1,13 @@
-// A reel: a recording with its index and a trailer, as it is stored.
+// A reel: a recording with its index and a trailer, as it is stored. Its layout, and its reader.
 mod index;
-mod layout;
+pub mod layout;
+mod trailer;
 
 use base::Words;
-use base::Written;
+use base::limit;
 use base::refusal;
-use base::room;
 ghost use mathlib.Core.Path.{_≡_};
-ghost use lib.ListN.{length};
-ghost use Rattle.reel.specs.Writing.{writeReply, writeRoom};
-ghost use Rattle.reel.specs.Reading.{readReply, told};
+ghost use Rattle.reel.specs.Reading.{refused, readReply};
 
 // What the reader answers: the words of the recording, and the number of entries.
 pub struct Reel {
@@ -18,46 +16,14 @@ pub struct Reel {
     pub entries: usize,
 }
 
-// The writer's reply.
-fn plan(recording: &[u16], sync: u16, room: usize) -> Written
-    ensures { λ r. ⌜ r ≡ writeReply sync (now (recording .entry)) room ⌝ }
-{
-    if base::limit::REEL_RECORDING < recording.len() {
-        return refusal::settle(refusal::LENGTH, Words(0));
-    }
-    let needed = layout::reel_words(
-        recording.len(),
-        chunk::reading::count(recording, sync).chunks,
-    );
-    refusal::settle(
-        refusal::cause(refusal::ROOM, room < needed, 0),
-        Words(needed),
-    )
-}
-
 fn refused(number: u8) -> Reel
-    ensures { λ r. ⌜ r ≡ told number 0 0 ⌝ }
+    ensures { λ r. ⌜ r ≡ refused number ⌝ }
 {
     Reel {
         refusal: number,
         n: Words(0),
         entries: 0,
     }
-}
-
-// Writes the reel of a recording into lent room.
-pub fn write(recording: &[u16], sync: u16, room: &mut [u16]) -> Written
-    ensures { λ r. ⌜ r ≡ writeReply sync (now (recording .entry)) (length (now (room .entry))) ⌝ }
-    ensures { λ _. ⌜ now (room .exit) ≡ writeRoom sync (now (recording .entry)) (now (room .entry)) ⌝ }
-{
-    let reply = plan(recording, sync, room.len());
-    if reply.refusal != 0 {
-        return reply;
-    }
-    room::put_words(recording, room, Words(0));
-    let count = index::write(recording, sync, room);
-    layout::put_trailer(room, recording.len(), count);
-    reply
 }
 
 // Reads a reel: it is accepted where its trailer tells the truth and its entries are those of a fresh reading.
@@ -71,12 +37,12 @@ pub fn read(reel: &[u16], sync: u16) -> Reel
     if layout::MOST < length {
         return refused(refusal::LENGTH);
     }
-    let trailer = layout::trailer_of(reel);
-    if !layout::agrees(reel, trailer) {
+    let trailer = trailer::trailer_of(reel);
+    if !trailer::agrees(reel, trailer) {
         return refused(refusal::REEL);
     }
-    let n = layout::wide(trailer.n);
-    if base::limit::REEL_RECORDING < n {
+    let n = trailer::wide(trailer.n);
+    if limit::REEL_RECORDING < n {
         return refused(refusal::REEL);
     }
     let end = length - layout::TRAILER;
@@ -86,6 +52,6 @@ pub fn read(reel: &[u16], sync: u16) -> Reel
     Reel {
         refusal: 0,
         n: Words(n),
-        entries: layout::wide(trailer.count),
+        entries: trailer::wide(trailer.count),
     }
 }

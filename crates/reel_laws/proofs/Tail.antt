@@ -12,7 +12,7 @@ use Rattle.chunk.specs.declared.Entry.{Entry}
 use Rattle.chunk.specs.Reading.{reading}
 use Rattle.reel.specs.Layout.{entryWidth, trailerWidth, edition, indexWords, reelCrc, trailer, tailWords, reelWords}
 use Rattle.reel.specs.Reading.{sameWords, countOf, nOf, crcOf, editionOf, recordingOf, indexOf, trailerAgrees, indexAgrees, accepted}
-use Rattle.reel.proofs.Entries.{index-length}
+use Rattle.reel.proofs.OnReel.{index-length}
 
 module _ (ws : List ℕ) (es : List Entry) where
   abbrev pub tailed : List ℕ

@@ -1,13 +1,14 @@
--- Document 01, "Reel": the writer and the reader fit.
+-- FORMAT, "Reel": the writer and the reader fit.
 use mathlib.Core.Path.{_≡_}
 use mathlib.Core.List.{List, _++_}
 use Prim.Native.Nat.{ℕ, _≤_}
 use lib.ListN.{length, take}
 use Rattle.base.specs.Limit.{reelLimit}
+use Rattle.base.specs.Refusal.{wrongReel}
 use Rattle.chunk.specs.Reading.{reading}
 use Rattle.reel.specs.Layout.{tailWords, reelOf}
-use Rattle.reel.specs.Writing.{writeReply, writeRoom}
-use Rattle.reel.specs.Reading.{readReply, told}
+use Rattle.reel.specs.Reading.{readReply, told, refused}
+use Rattle.reel_writing.specs.Writing.{writeReply, writeRoom}
 
 -- What the writer writes the reader accepts, with the recording's length and the number of its chunks.
 abbrev pub WrittenIsAccepted : Type 0
@@ -25,4 +26,4 @@ AcceptedIsWritten =
 abbrev pub OldIndexIsRefused : Type 0
 OldIndexIsRefused =
     (sync : ℕ) (ws other : List ℕ) → length other ≡ length ws → length ws ≤ reelLimit → (reading sync other ≡ reading sync ws → ⊥)
-    → readReply sync (other ++ tailWords (length ws) (reading sync ws)) ≡ told 13 0 0
+    → readReply sync (other ++ tailWords (length ws) (reading sync ws)) ≡ refused wrongReel

@@ -55,11 +55,11 @@ use denote.Triple.Walked.{says, Stays, stay-none, stay-slice, stay-none-slice, w
 use denote.Triple.Walked.{walked, walk-meets}
 use denote.Exit.{yes}
 use Rattle.chunk.specs.declared.Entry.{Entry}
-use Rattle.chunk.specs.declared.Survey.{Survey}
+use Rattle.chunk_reading.specs.declared.Survey.{Survey}
 use Rattle.chunk.proofs.Entry as E
 use Rattle.chunk.proofs.Entry.Laws as E′
-use Rattle.chunk.proofs.Survey as S
-use Rattle.chunk.proofs.Survey.Laws as S′
+use Rattle.chunk_reading.proofs.Survey as S
+use Rattle.chunk_reading.proofs.Survey.Laws as S′
 use Rattle.chunk_register.specs.declared.finder.Step.{Step}
 use Rattle.chunk_register.specs.Register.{listReply, listRoom}
 use Rattle.chunk_register.specs.Finder.{stepFrom}
@@ -323,7 +323,7 @@ module _ {M : Type 1} (𝓤 : URA M) (H : Heap 𝓤) (A : Atoms 𝓤) (W : Given
           at = u .end;
           at-fits = typed-step u (w′ ∷ []) is-u .1 .1 .0 .fits;
           filled =
-              F.turn y (now s) reg₀ (r .chunks) (t .reg) (t .k) (t .at) (t .filled) (ltb-true (t .k) (r .chunks) h) u e′;
+              F.entry-filled y (now s) reg₀ (r .chunks) (t .reg) (t .k) (t .at) (t .filled) (ltb-true (t .k) (r .chunks) h) u e′;
         })
         (omega (arith, ltb-true (t .k) (r .chunks) h))))))))
         (λ h. assigns ! (bin ! (load ! (from ! (stop !)) (look ! 16 refl)) (load ! (from ! (stop !)) (look ! 20 refl)) tt) (from ! (stop !))
@@ -341,8 +341,8 @@ module _ {M : Type 1} (𝓤 : URA M) (H : Heap 𝓤) (A : Atoms 𝓤) (W : Given
         move ! (15 ∷ 16 ∷ []) $ free1 ! $ move ! (13 ∷ 14 ∷ []) $ free1 ! $ move ! (11 ∷ 12 ∷ []) $ free1 ! $ move ! (9 ∷ 10 ∷ []) $ free1 ! $
         move ! (7 ∷ 8 ∷ []) $ free1 ! $ move ! (5 ∷ 6 ∷ []) $ free1 ! $ free0 ! $
         by ! (exits room r e (survey-is r (w ∷ []) is-r) (t .reg) (t .filled .long)
-        (F.done y (now s) reg₀ r e (t .reg) (t .k) (t .at) (t .filled) (ltb-false (t .k) (r .chunks) h)))))
-        (record { reg = reg₀; k = 0; at = 0; at-fits = lit< tt; filled = F.start y (now s) reg₀ r e }))))))))))))))))))
+        (F.all-filled y (now s) reg₀ r e (t .reg) (t .k) (t .at) (t .filled) (ltb-false (t .k) (r .chunks) h)))))
+        (record { reg = reg₀; k = 0; at = 0; at-fits = lit< tt; filled = F.none-filled y (now s) reg₀ r e }))))))))))))))))))
 
 module _ {M : Type 1} (𝓤 : URA M) (H : Heap 𝓤) (A : Atoms 𝓤) (W : Given 𝓤 H A) (at-mem : Memory → SProp 𝓤) (run : Routine → Fun 𝓤) where
   list-walks : (𝓣 : Tables 𝓤 H) → Triple 𝓤 (𝓣 .C #look) (Look 𝓤 H A at-mem run) → Triple 𝓤 (𝓣 .C #step) (StepFrom 𝓤 H A at-mem run)

@@ -1,7 +1,7 @@
 -- `health_last::last_place` meets its contract: by the verdict on the arguments, and then by what is shown.
 use mathlib.Core.Path.{_∙_}
 use borrow.Author.Needs.{needs}
-use Rattle.health_last.proofs.Placed.{stopped, none, there}
+use Rattle.health_last.proofs.Placed.{arguments-refused, none-refused, found-shown}
 use Rattle.health_last.proofs.last_place.Statement.{statement}
 use Rattle.health_last.proofs.last_place.Tie as tie
 
@@ -9,7 +9,7 @@ returns : tie.Need-returns
 returns c =
     let judged = c .before .before in
     let a = judged .before .before .before .args in
-    c .refused .ensures ∙ stopped (a .sync) (a .science .now) (a .packet-type) (a .health .now) (judged .judge .ensures) (c .before .if1 .taken)
+    c .refused .ensures ∙ arguments-refused (a .sync) (a .science .now) (a .packet-type) (a .health .now) (judged .judge .ensures) (c .before .if1 .taken)
 
 returns-2 : tie.Need-returns-2
 returns-2 c =
@@ -17,7 +17,7 @@ returns-2 c =
     let tested = chosen .before .before .before in
     let a = tested .before .before .before .before .args in
     c .refused2 .ensures
-    ∙ none (a .sync) (a .science .now) (a .packet-type) (a .health .now) (tested .before .judge .ensures) (tested .if1 .left)
+    ∙ none-refused (a .sync) (a .science .now) (a .packet-type) (a .health .now) (tested .before .judge .ensures) (tested .if1 .left)
     (chosen .before .before .in-science .ensures) (chosen .before .in-row .ensures) (chosen .choose .ensures) (c .before .if2 .taken)
 
 returns-3 : tie.Need-returns-3
@@ -25,7 +25,7 @@ returns-3 c =
     let chosen = c .before .before in
     let tested = chosen .before .before .before in
     let a = tested .before .before .before .before .args in
-    there (a .sync) (a .science .now) (a .packet-type) (a .health .now) (tested .before .judge .ensures) (tested .if1 .left)
+    found-shown (a .sync) (a .science .now) (a .packet-type) (a .health .now) (tested .before .judge .ensures) (tested .if1 .left)
     (chosen .before .before .in-science .ensures) (chosen .before .in-row .ensures) (chosen .choose .ensures) (c .if2 .left)
 
 pub last-place-spec : {M : Type 1} → statement M

@@ -5,7 +5,7 @@ use native.Mathlib.Omega.{arith}
 use borrow.Author.Needs.{needs}
 use Rattle.parity_rows.specs.Parity.{xorAll, number}
 use Rattle.parity_rows.specs.ByRows.{sumsOf}
-use Rattle.parity_rows.proofs.ByRows.{next-sums, all-rows}
+use Rattle.parity_rows.proofs.ByRows.{next-sums, enough-rows, all-rows}
 use Rattle.parity_rows.proofs.parity.Statement.{statement}
 use Rattle.parity_rows.proofs.parity.Tie as tie
 
@@ -21,11 +21,17 @@ loop-holds c = (omega arith, refl)
 
 loop-again : tie.Need-loop-again Inv-loop μ-loop
 loop-again c =
-    let l = c .before .before .before in
+    let l = c .before .before .before .before in
     (omega arith, next-sums (l .before .before .args .«data» .now) (l .loop .r) (omega arith) (l .loop .inv .1) (c .before .bits-from .ensures) (c .add .ensures))
 
 returns : tie.Need-returns Inv-loop μ-loop
 returns c =
+    let l = c .before .before in
+    let d = l .before .before .args .«data» .now in
+    l .loop .inv .1 ∙ enough-rows d (l .loop .r) (l .loop .inv .0) (c .if1 .taken) ∙ all-rows d
+
+returns-2 : tie.Need-returns-2 Inv-loop μ-loop
+returns-2 c =
     let d = c .before .before .before .args .«data» .now in
     let all : c .before .loop .r ≡ 64 = omega arith in
     c .before .loop .inv .1 ∙ ap (sumsOf d) all ∙ all-rows d
@@ -38,9 +44,11 @@ parity-spec =
     μ-loop
     loop-holds
     (λ c. search needs)
+    returns
+    (λ c. search needs)
     (λ c κs. search needs)
     (λ c κs. search needs)
     (λ c. search needs)
     (λ c. search needs)
     loop-again
-    returns)
+    returns-2)

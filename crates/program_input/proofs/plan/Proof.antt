@@ -9,4 +9,4 @@ unfolding wordsReply
 returns c = cc
 
 pub plan-spec : {M : Type 1} → statement M
-plan-spec = tie.close (tie.spec (λ c κs. search needs) (λ c κs. search needs) (λ c κs. search needs) returns)
+plan-spec = tie.close (tie.spec (λ c κs. search needs) (λ c κs. search needs) (λ c κs. search needs) (λ c κs. search needs) returns)

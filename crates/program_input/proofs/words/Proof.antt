@@ -5,7 +5,7 @@ use lib.ListN.{length}
 use borrow.Author.Needs.{needs}
 use Rattle.base.proofs.Pasting.{Pasted, start, done}
 use Rattle.program_input.specs.Input.{wordsOf}
-use Rattle.program_input.proofs.Joining.{words-length, joined, untouched, fits, given}
+use Rattle.program_input.proofs.Joining.{words-length, joined, untouched, fits, written}
 use Rattle.program_input.proofs.words.Statement.{statement}
 use Rattle.program_input.proofs.words.Tie as tie
 
@@ -19,13 +19,13 @@ returns : tie.Need-returns Inv-loop μ-loop
 returns c =
     let p = c .before .before in
     let a = p .before .before .before .args in
-    (p .plan .ensures, untouched (a .bytes .now) (a .room .now) _ (p .plan .ensures) (c .if1 .taken))
+    (p .plan .ensures, untouched (a .bytes .now) (a .most .0) (a .room .now) _ (p .plan .ensures) (c .if1 .taken))
 
 loop-holds : tie.Need-loop-holds Inv-loop μ-loop
 loop-holds c =
     let p = c .before .before in
     let a = p .before .before .before .args in
-    start _ _ _ (fits (a .bytes .now) (a .room .now) _ (p .plan .ensures) (c .if1 .left))
+    start _ _ _ (fits (a .bytes .now) (a .most .0) (a .room .now) _ (p .plan .ensures) (c .if1 .left))
 
 slice-write-room : tie.Need-slice-write-room Inv-loop μ-loop
 slice-write-room c =
@@ -46,7 +46,7 @@ returns-2 c =
     let p = e .before .before in
     let a = p .before .before .before .args in (
       p .plan .ensures,
-      given (a .bytes .now) (a .room .now) _ (p .plan .ensures) (e .if1 .left) _
+      written (a .bytes .now) (a .most .0) (a .room .now) _ (p .plan .ensures) (e .if1 .left) _
           (done _ _ _ _ _ (c .before .loop .inv) (omega (arith, words-length (a .bytes .now), c .loop-test .left))),
     )
 

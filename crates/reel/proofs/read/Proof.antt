@@ -6,37 +6,36 @@ use native.Mathlib.Omega.{arith}
 use lib.ListN.{length}
 use lib.Seq.{length-take-le}
 use borrow.Author.Tests.{not-true, not-false}
-use Rattle.reel.specs.declared.layout.Trailer.{Trailer}
+use Rattle.reel.specs.declared.trailer.Trailer.{Trailer}
 use Rattle.reel.specs.Reading.{trailerAgrees, nOf}
-use Rattle.reel.proofs.Ends.{agrees-length}
-use Rattle.reel.proofs.Whole.{too-short, too-long, not-accepted, is-accepted, no-trailer, n-large, as-entries}
+use Rattle.reel.proofs.Reading.{agrees-length, too-short-refused, too-long-refused, not-accepted-refused, accepted-read, trailer-not-accepted, n-not-accepted, accepted-by-entries}
 use borrow.Author.Needs.{needs}
 use Rattle.reel.proofs.read.Statement.{statement}
 use Rattle.reel.proofs.read.Tie as tie
 
 -- past the trailer's test: it agrees, and n is the one that it tells
-right : (w : tie.After-wide) → trailerAgrees (w .before .before .before .before .before .before .before .args .reel .now) ≡ true
-right w = sym (w .before .before .agrees .ensures) ∙ not-false _ (w .before .if3 .left)
+trailer-agrees : (w : tie.After-wide) → trailerAgrees (w .before .before .before .before .before .before .before .args .reel .now) ≡ true
+trailer-agrees w = sym (w .before .before .agrees .ensures) ∙ not-false _ (w .before .if3 .left)
 
-is-n : (w : tie.After-wide) → w .wide .result ≡ nOf (w .before .before .before .before .before .before .before .args .reel .now)
-is-n w = w .wide .ensures .0 ∙ ap (λ (t : Trailer). t .n) (w .before .before .before .trailer-of .ensures)
+n-told : (w : tie.After-wide) → w .wide .result ≡ nOf (w .before .before .before .before .before .before .before .args .reel .now)
+n-told w = w .wide .ensures .0 ∙ ap (λ (t : Trailer). t .n) (w .before .before .before .trailer-of .ensures)
 
 within : (w : tie.After-wide) → w .wide .result + 4 ≤ length (w .before .before .before .before .before .before .before .args .reel .now)
-within w = omega (arith, is-n w, agrees-length (w .before .before .before .before .before .before .before .args .reel .now) (right w))
+within w = omega (arith, n-told w, agrees-length (w .before .before .before .before .before .before .before .args .reel .now) (trailer-agrees w))
 
 returns : tie.Need-returns
-returns c = let a = c .before .before .before .args in too-short (a .sync) (a .reel .now) _ (c .refused .ensures) (c .before .if1 .taken)
+returns c = let a = c .before .before .before .args in too-short-refused (a .sync) (a .reel .now) _ (c .refused .ensures) (c .before .if1 .taken)
 
 returns-2 : tie.Need-returns-2
-returns-2 c = let a = c .before .before .before .before .args in too-long (a .sync) (a .reel .now) _ (c .refused2 .ensures) (c .before .if2 .taken)
+returns-2 c = let a = c .before .before .before .before .args in too-long-refused (a .sync) (a .reel .now) _ (c .refused2 .ensures) (c .before .if2 .taken)
 
 returns-3 : tie.Need-returns-3
 returns-3 c =
     let g = c .before .before in
     let m = g .before .before in
     let a = m .before .before .before .args in
-    not-accepted (a .sync) (a .reel .now) (m .before .if1 .left) (m .if2 .left) _ (c .refused3 .ensures)
-    (no-trailer (a .sync) (a .reel .now) (sym (g .agrees .ensures) ∙ not-true _ (c .before .if3 .taken)))
+    not-accepted-refused (a .sync) (a .reel .now) (m .before .if1 .left) (m .if2 .left) _ (c .refused3 .ensures)
+    (trailer-not-accepted (a .sync) (a .reel .now) (sym (g .agrees .ensures) ∙ not-true _ (c .before .if3 .taken)))
 
 returns-4 : tie.Need-returns-4
 returns-4 c =
@@ -44,8 +43,8 @@ returns-4 c =
     let g = w .before .before in
     let m = g .before .before in
     let a = m .before .before .before .args in
-    not-accepted (a .sync) (a .reel .now) (m .before .if1 .left) (m .if2 .left) _ (c .refused4 .ensures)
-    (n-large (a .sync) (a .reel .now) (right w) _ (is-n w) (c .before .if4 .taken))
+    not-accepted-refused (a .sync) (a .reel .now) (m .before .if1 .left) (m .if2 .left) _ (c .refused4 .ensures)
+    (n-not-accepted (a .sync) (a .reel .now) (trailer-agrees w) _ (n-told w) (c .before .if4 .taken))
 
 slice-aggregate-agrees : tie.Need-slice-aggregate-agrees
 slice-aggregate-agrees c = sym (length-take-le _ _ (omega (arith, within (c .before .before))))
@@ -64,8 +63,8 @@ returns-5 c =
     let g = w .before .before in
     let m = g .before .before in
     let a = m .before .before .before .args in
-    not-accepted (a .sync) (a .reel .now) (m .before .if1 .left) (m .if2 .left) _ (c .refused5 .ensures)
-    (as-entries (a .sync) (a .reel .now) (right w) _ (is-n w) (l .if4 .left) _ (i .agrees2 .ensures) ∙ not-true _ (c .before .if5 .taken))
+    not-accepted-refused (a .sync) (a .reel .now) (m .before .if1 .left) (m .if2 .left) _ (c .refused5 .ensures)
+    (accepted-by-entries (a .sync) (a .reel .now) (trailer-agrees w) _ (n-told w) (l .if4 .left) _ (i .agrees2 .ensures) ∙ not-true _ (c .before .if5 .taken))
 
 returns-6 : tie.Need-returns-6
 returns-6 c =
@@ -75,8 +74,8 @@ returns-6 c =
     let g = w .before .before in
     let m = g .before .before in
     let a = m .before .before .before .args in
-    is-accepted (a .sync) (a .reel .now) (m .before .if1 .left) (m .if2 .left) _ _ (is-n w) (c .wide2 .ensures .0 ∙ ap (λ (t : Trailer). t .count) (g .before .trailer-of .ensures))
-    (as-entries (a .sync) (a .reel .now) (right w) _ (is-n w) (l .if4 .left) _ (i .agrees2 .ensures) ∙ not-false _ (c .before .if5 .left))
+    accepted-read (a .sync) (a .reel .now) (m .before .if1 .left) (m .if2 .left) _ _ (n-told w) (c .wide2 .ensures .0 ∙ ap (λ (t : Trailer). t .count) (g .before .trailer-of .ensures))
+    (accepted-by-entries (a .sync) (a .reel .now) (trailer-agrees w) _ (n-told w) (l .if4 .left) _ (i .agrees2 .ensures) ∙ not-false _ (c .before .if5 .left))
 
 pub read-spec : {M : Type 1} → statement M
 read-spec =

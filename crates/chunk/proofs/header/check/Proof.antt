@@ -8,7 +8,7 @@ use native.Mathlib.Omega.{arith}
 use borrow.Author.Needs.{needs}
 use borrow.Author.Tests.{eq-eqb, ne-eqb, not-true, not-false}
 use Rattle.chunk.specs.Header.{headed, confirmed, checkOf}
-use Rattle.chunk.proofs.Headers.{headed-inside, confirmed-none, confirmed-is}
+use Rattle.chunk.proofs.Headers.{headed-inside, confirmed-none, confirmed-by-end}
 use Rattle.chunk.proofs.header.check.Statement.{statement}
 use Rattle.chunk.proofs.header.check.Tie as tie
 
@@ -26,7 +26,7 @@ standing : (c : tie.After-size-of)
 standing c =
     let e = c .before .before in
     let a = e .before .before .before .args in
-    confirmed-is (a .sync) (a .words .now) (a .at .0) _ (sym (e .before .headed-at .ensures) ∙ not-false _ (e .if1 .left))
+    confirmed-by-end (a .sync) (a .words .now) (a .at .0) _ (sym (e .before .headed-at .ensures) ∙ not-false _ (e .if1 .left))
     (ap (λ (n : ℕ). a .at .0 + 2 + n) (c .size-of .ensures))
 
 returns : tie.Need-returns

@@ -9,9 +9,10 @@ use Rattle.base.proofs.RoomLaws.{to-end}
 use Rattle.frame.specs.declared.Frame.{Frame}
 use Rattle.frame.specs.declared.Piece.{Piece}
 use Rattle.frame.specs.declared.shape.Reach.{Reach}
-use Rattle.frame.specs.Shape.{startsFrame, frameWords}
-use Rattle.frame.specs.Replies.{described, reachOf}
-use Rattle.frame.proofs.Walking.{long, ends}
+use Rattle.frame.specs.Shape.{frameWords}
+use Rattle.frame.specs.Described.{described}
+use Rattle.frame.specs.Walk.{startsFrame, reachOf}
+use Rattle.frame.proofs.Walking.{longer-than-header, frame-ends-inside}
 use borrow.Author.Needs.{needs}
 use Rattle.frame.proofs.pieces.frame_there.Statement.{statement}
 use Rattle.frame.proofs.pieces.frame_there.Tie as tie
@@ -25,10 +26,10 @@ module _ (s : tie.Start) where
   part = sym (to-end (s .args .at) ws)
 
   within : s .args .at + 2 < length ws
-  within = omega (arith, long (s .args .sync) (drop (s .args .at) ws) (s .pre), length-drop (s .args .at) ws)
+  within = omega (arith, longer-than-header (s .args .sync) (drop (s .args .at) ws) (s .pre), length-drop (s .args .at) ws)
 
   reaches : s .args .at + frameWords (s .args .sync) (drop (s .args .at) ws) ≤ length ws
-  reaches = omega (arith, within, ends (s .args .sync) (drop (s .args .at) ws) (s .pre), length-drop (s .args .at) ws)
+  reaches = omega (arith, within, frame-ends-inside (s .args .sync) (drop (s .args .at) ws) (s .pre), length-drop (s .args .at) ws)
 
 mul-from : tie.Need-mul-from
 mul-from c = omega (arith, within (c .before))

@@ -8,7 +8,7 @@ use Rattle.chunk.specs.declared.Entry.{Entry}
 use Rattle.chunk.proofs.Steps.{Next, stepped, past}
 use Rattle.frame.specs.declared.Piece.{Piece}
 use Rattle.frame.specs.Pieces.{nextPiece}
-use Rattle.frame.proofs.Stepping.{none, passed, framed, strayed, frame-starts}
+use Rattle.frame.proofs.pieces.Stepping.{no-piece, health-passed, frame-next, stray-next, frame-starts}
 use Rattle.frame.proofs.pieces.next.Statement.{statement}
 use Rattle.frame.proofs.pieces.next.Tie as tie
 
@@ -57,7 +57,7 @@ returns c =
     let i = c .before .before .before in
     let k = i .before .before .before .before in
     c .frame-there .ensures
-    ∙ sym (framed (a k .args .sync) (a k .args .words .now) (l k .loop .at) (e k) (step k) (sym (i .before .kind-of .ensures) ∙ i .if1 .taken) (sym (c .before .before .starts .ensures) ∙ c .before .if2 .taken))
+    ∙ sym (frame-next (a k .args .sync) (a k .args .words .now) (l k .loop .at) (e k) (step k) (sym (i .before .kind-of .ensures) ∙ i .if1 .taken) (sym (c .before .before .starts .ensures) ∙ c .before .if2 .taken))
     ∙ l k .loop .inv
 
 returns-2 : tie.Need-returns-2 Inv-loop μ-loop
@@ -65,7 +65,7 @@ returns-2 c =
     let i = c .before .before in
     let k = i .before .before .before .before in
     ap (λ (n : ℕ). Piece.Stray (e k .position) (record { 0 = n })) (ends (i .before .before .before))
-    ∙ sym (strayed (a k .args .sync) (a k .args .words .now) (l k .loop .at) (e k) (step k) (sym (i .before .kind-of .ensures) ∙ i .if1 .taken) (sym (c .before .starts .ensures) ∙ c .if2 .left))
+    ∙ sym (stray-next (a k .args .sync) (a k .args .words .now) (l k .loop .at) (e k) (step k) (sym (i .before .kind-of .ensures) ∙ i .if1 .taken) (sym (c .before .starts .ensures) ∙ c .if2 .left))
     ∙ l k .loop .inv
 
 loop-less : tie.Need-loop-less Inv-loop μ-loop
@@ -77,14 +77,14 @@ loop-again : tie.Need-loop-again Inv-loop μ-loop
 loop-again c =
     let k = c .before .before .before .before in
     ap (λ (n : ℕ). nextPiece (a k .args .sync) (a k .args .words .now) n) (ends (c .before .before .before))
-    ∙ sym (passed (a k .args .sync) (a k .args .words .now) (l k .loop .at) (e k) (step k) (λ z. c .if1 .left (c .before .kind-of .ensures ∙ z)))
+    ∙ sym (health-passed (a k .args .sync) (a k .args .words .now) (l k .loop .at) (e k) (step k) (λ z. c .if1 .left (c .before .kind-of .ensures ∙ z)))
     ∙ l k .loop .inv
 
 returns-3 : tie.Need-returns-3 Inv-loop μ-loop
 returns-3 c =
     let i = c .before .before .before in
     let s = i .before .before in
-    sym (none (s .args .sync) (s .args .words .now) (i .loop .at) (sym (c .before .before .next .ensures) ∙ c .enum-told .given .1)) ∙ i .loop .inv
+    sym (no-piece (s .args .sync) (s .args .words .now) (i .loop .at) (sym (c .before .before .next .ensures) ∙ c .enum-told .given .1)) ∙ i .loop .inv
 
 pub next-spec : {M : Type 1} → statement M
 next-spec =

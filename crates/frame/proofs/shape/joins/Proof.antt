@@ -7,4 +7,4 @@ returns : tie.Need-returns
 returns c = cc
 
 pub joins-spec : {M : Type 1} → statement M
-joins-spec = tie.close (tie.spec (λ c κs. search needs) (λ c κs. search needs) (λ c κs. search needs) returns)
+joins-spec = tie.close (tie.spec (λ c κs. search needs) (λ c κs. search needs) (λ c κs. search needs) (λ c κs. search needs) returns)

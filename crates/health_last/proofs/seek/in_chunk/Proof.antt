@@ -4,7 +4,7 @@ use Prim.Native.Nat.{ℕ, _/_, _+_}
 use borrow.Author.Needs.{needs}
 use Rattle.chunk.specs.Reading.{entry}
 use Rattle.health_last.specs.Packets.{packetPlaces, soundOf, lastWhere}
-use Rattle.health_last.proofs.Seeking.{no-packets, packets}
+use Rattle.health_last.proofs.seek.Seeking.{no-packets, chunk-packets}
 use Rattle.health_last.proofs.seek.in_chunk.Statement.{statement}
 use Rattle.health_last.proofs.seek.in_chunk.Tie as tie
 
@@ -20,7 +20,7 @@ returns-2 c =
     let f = soundOf (a .words .now) (a .packet-type) in
     c .in-row .ensures
     ∙ ap (λ (n : ℕ). lastWhere f (packetPlaces (n / 32) (a .position + 2))) (c .before .before .size-of .ensures)
-    ∙ ap (lastWhere f) (sym (packets (entry (a .position) (a .header)) (sym (tested .before .kind-of .ensures) ∙ tested .if1 .left)))
+    ∙ ap (lastWhere f) (sym (chunk-packets (entry (a .position) (a .header)) (sym (tested .before .kind-of .ensures) ∙ tested .if1 .left)))
 
 pub in-chunk-spec : {M : Type 1} → statement M
 in-chunk-spec =

@@ -4,7 +4,7 @@ use Prim.Native.Nat.{_≤_}
 use native.Mathlib.Omega.{arith}
 use borrow.Author.Needs.{needs}
 use Rattle.health_last.specs.Packets.{packetPlaces, soundOf, lastWhere}
-use Rattle.health_last.proofs.Seeking.{hit, miss, none-in}
+use Rattle.health_last.proofs.seek.Seeking.{last-found, last-before, none-left}
 use Rattle.health_last.proofs.seek.in_row.Statement.{statement}
 use Rattle.health_last.proofs.seek.in_row.Tie as tie
 
@@ -22,7 +22,7 @@ returns : tie.Need-returns Inv-loop μ-loop
 returns c =
     let turn = c .before .before in
     let a = turn .before .before .before .args in
-    hit (soundOf (a .words .now) (a .packet-type)) (turn .before .loop .left) (a .from) (turn .loop-test .taken) (sym (c .before .is-of .ensures) ∙ c .if1 .taken)
+    last-found (soundOf (a .words .now) (a .packet-type)) (turn .before .loop .left) (a .from) (turn .loop-test .taken) (sym (c .before .is-of .ensures) ∙ c .if1 .taken)
     ∙ turn .before .loop .inv .1
 
 loop-again : tie.Need-loop-again Inv-loop μ-loop
@@ -30,14 +30,14 @@ loop-again c =
     let turn = c .before .before in
     let a = turn .before .before .before .args in (
       omega arith,
-      miss (soundOf (a .words .now) (a .packet-type)) (turn .before .loop .left) (a .from) (turn .loop-test .taken) (sym (c .before .is-of .ensures) ∙ c .if1 .left)
+      last-before (soundOf (a .words .now) (a .packet-type)) (turn .before .loop .left) (a .from) (turn .loop-test .taken) (sym (c .before .is-of .ensures) ∙ c .if1 .left)
           ∙ turn .before .loop .inv .1,
     )
 
 returns-2 : tie.Need-returns-2 Inv-loop μ-loop
 returns-2 c =
     let a = c .before .before .before .args in
-    sym (none-in (soundOf (a .words .now) (a .packet-type)) (c .before .loop .left) (a .from) (omega arith)) ∙ c .before .loop .inv .1
+    sym (none-left (soundOf (a .words .now) (a .packet-type)) (c .before .loop .left) (a .from) (omega arith)) ∙ c .before .loop .inv .1
 
 pub in-row-spec : {M : Type 1} → statement M
 in-row-spec =

@@ -9,10 +9,10 @@ use Rattle.listing.proofs.lines.chunks.Statement.{statement}
 use Rattle.listing.proofs.lines.chunks.Tie as tie
 
 abbrev Inv-loop : tie.InvT-loop
-Inv-loop words sync at₀ at = Unit {0}
+Inv-loop page₀ words sync said₀ at₀ page said at = Unit {0}
 
 abbrev μ-loop : tie.MeasureT-loop
-μ-loop words sync at₀ at = length words - at
+μ-loop page₀ words sync said₀ at₀ page said at = length words - at
 
 loop-holds : tie.Need-loop-holds Inv-loop μ-loop
 loop-holds c = tt
@@ -56,7 +56,6 @@ chunks-spec =
     (λ c. search needs)
     (λ c. search needs)
     (λ c κs. search needs)
-    (λ c. search needs)
     add-at
     (λ c κs. search needs)
     add-at-2

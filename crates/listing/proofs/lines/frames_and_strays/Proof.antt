@@ -9,10 +9,10 @@ use Rattle.listing.proofs.lines.frames_and_strays.Statement.{statement}
 use Rattle.listing.proofs.lines.frames_and_strays.Tie as tie
 
 abbrev Inv-loop : tie.InvT-loop
-Inv-loop words sync at₀ at = Unit {0}
+Inv-loop page₀ words sync said₀ at₀ page said at = Unit {0}
 
 abbrev μ-loop : tie.MeasureT-loop
-μ-loop words sync at₀ at = length words - at
+μ-loop page₀ words sync said₀ at₀ page said at = length words - at
 
 loop-holds : tie.Need-loop-holds Inv-loop μ-loop
 loop-holds c = tt
@@ -49,12 +49,10 @@ frames-and-strays-spec =
     (λ c κs. search needs)
     (λ c. search needs)
     (λ c κs. search needs)
-    (λ c. search needs)
     loop-less
     loop-again
     (λ c. search needs)
     (λ c κs. search needs)
-    (λ c. search needs)
     loop-less-2
     loop-again-2
     (λ c. search needs)

@@ -1,0 +1,78 @@
+-- `chunk_reading::counting::count` meets its contract: the loop of `Counted`.
+use mathlib.Core.Path.{sym, ap₂, _∙_}
+use Prim.Native.Nat.{_-_}
+use native.Mathlib.Omega.{arith}
+use lib.ListN.{length}
+use borrow.Author.Needs.{needs}
+use Rattle.chunk_reading.specs.Counting.{surveyed}
+use Rattle.chunk.proofs.Steps.{Next, Last, stepped, ended}
+use Rattle.chunk_reading.proofs.counting.Counted.{Counted, none-counted, chunk-counted, all-chunks, all-skipped}
+use Rattle.chunk_reading.proofs.counting.count.Statement.{statement}
+use Rattle.chunk_reading.proofs.counting.count.Tie as tie
+
+abbrev Inv-loop : tie.InvT-loop
+Inv-loop words sync chunks₀ skipped₀ at₀ chunks skipped at = Counted sync words chunks skipped at
+
+abbrev μ-loop : tie.MeasureT-loop
+μ-loop words sync chunks₀ skipped₀ at₀ chunks skipped at = length words - at
+
+-- the chunk that was found
+step : (c : tie.After-known-told Inv-loop μ-loop)
+    → (let l = c .before .before .before .before in
+    Next (l .before .before .args .sync) (l .before .before .args .words .now) (l .loop .at) (c .before .found .given .0 .0) (c .before .found .given .0 .1 .0 .0))
+step c =
+    let l = c .before .before .before .before in
+    stepped (l .before .before .args .sync) (l .before .before .args .words .now) (l .loop .at) (c .before .found .given .0 .0) (c .before .found .given .0 .1 .0)
+    (sym (c .before .before .before .next .ensures) ∙ c .before .found .given .1)
+
+-- that there was none
+last : (c : tie.After-enum-told Inv-loop μ-loop)
+    → (let l = c .before .before .before in
+    Last (l .before .before .args .sync) (l .before .before .args .words .now) (l .loop .at))
+last c =
+    let l = c .before .before .before in
+    ended (l .before .before .args .sync) (l .before .before .args .words .now) (l .loop .at)
+    (sym (c .before .before .next .ensures) ∙ c .enum-told .given .1)
+
+loop-holds : tie.Need-loop-holds Inv-loop μ-loop
+loop-holds c = none-counted (c .before .args .sync) (c .before .args .words .now)
+
+returns : tie.Need-returns Inv-loop μ-loop
+returns c =
+    let l = c .before .before .before in
+    let a = l .before .before .args in
+    ap₂ (surveyed 0) (all-chunks (a .sync) (a .words .now) _ _ _ (l .loop .inv) (last c)) (all-skipped (a .sync) (a .words .now) _ _ _ (l .loop .inv) (last c))
+
+add-chunks : tie.Need-add-chunks Inv-loop μ-loop
+add-chunks c = record { fits = omega (arith, step c .ahead, step c .within, step c .end) }
+
+sub-skipped : tie.Need-sub-skipped Inv-loop μ-loop
+sub-skipped c = omega (arith, step c .ahead)
+
+add-skipped : tie.Need-add-skipped Inv-loop μ-loop
+add-skipped c = record { fits = omega (arith, step c .ahead, step c .within, step c .end) }
+
+loop-less : tie.Need-loop-less Inv-loop μ-loop
+loop-less c = omega (arith, step c .ahead, step c .within, step c .end)
+
+loop-again : tie.Need-loop-again Inv-loop μ-loop
+loop-again c = chunk-counted _ _ _ _ _ (c .before .before .before .before .loop .inv) _ _ (step c)
+
+pub count-spec : {M : Type 1} → statement M
+count-spec =
+    tie.close
+    (tie.spec
+    Inv-loop
+    μ-loop
+    loop-holds
+    (λ c κs. search needs)
+    (λ c. search needs)
+    (λ c. search needs)
+    (λ c. search needs)
+    (λ c. search needs)
+    returns
+    add-chunks
+    sub-skipped
+    add-skipped
+    loop-less
+    loop-again)

@@ -1,0 +1,17 @@
+-- `chunk_reading::counting::survey` meets its contract: by the test of the length.
+use mathlib.Core.Path.{sym, _∙_}
+use borrow.Author.Needs.{needs}
+use Rattle.base.specs.Refusal.{answer}
+use Rattle.chunk_reading.proofs.counting.survey.Statement.{statement}
+use Rattle.chunk_reading.proofs.counting.survey.Tie as tie
+
+returns : tie.Need-returns
+unfolding answer
+returns c = simp (sym (c .before .before .too-long .ensures) ∙ c .before .if1 .taken) (c .refused .ensures)
+
+returns-2 : tie.Need-returns-2
+unfolding answer
+returns-2 c = simp (sym (c .before .before .too-long .ensures) ∙ c .before .if1 .left) (c .count .ensures)
+
+pub survey-spec : {M : Type 1} → statement M
+survey-spec = tie.close (tie.spec (λ c κs. search needs) (λ c κs. search needs) returns (λ c κs. search needs) returns-2)

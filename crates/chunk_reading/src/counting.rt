@@ -1,0 +1,53 @@
+// The chunks of a recording and the words between them, counted.
+use crate::Survey;
+use base::Words;
+use base::limit;
+use base::refusal;
+use chunk::Found;
+use chunk::search;
+ghost use mathlib.Core.Path.{_≡_};
+ghost use Rattle.chunk_reading.specs.Counting.{refused, countReply, surveyReply};
+
+pub fn refused(number: u8) -> Survey
+    ensures { λ r. ⌜ r ≡ refused number ⌝ }
+{
+    Survey {
+        refusal: number,
+        chunks: 0,
+        skipped: Words(0),
+    }
+}
+
+// The chunks and the skipped words of any words.
+pub fn count(words: &[u16], sync: u16) -> Survey
+    ensures { λ r. ⌜ r ≡ countReply sync (now (words .entry)) ⌝ }
+{
+    let mut chunks: usize = 0;
+    let mut skipped: usize = 0;
+    let mut at: usize = 0;
+    loop {
+        let found = search::next(words, sync, Words(at));
+        let Found::Chunk(entry, next) = found else {
+            let all = skipped + (words.len() - at);
+            return Survey {
+                refusal: 0,
+                chunks: chunks,
+                skipped: Words(all),
+            };
+        };
+        let begins = entry.position.0;
+        chunks += 1;
+        skipped += begins - at;
+        at = next.0;
+    }
+}
+
+// The chunks and the skipped words of a recording.
+pub fn survey(recording: &[u16], sync: u16) -> Survey
+    ensures { λ r. ⌜ r ≡ surveyReply sync (now (recording .entry)) ⌝ }
+{
+    if limit::too_long(recording) {
+        return refused(refusal::LENGTH);
+    }
+    count(recording, sync)
+}

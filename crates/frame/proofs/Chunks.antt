@@ -1,0 +1,37 @@
+-- A chunk's payload and its data words, from its header word alone.
+use mathlib.Core.Path.{_≡_, ap, _∙_}
+use mathlib.Core.Bool.{true, cond, _&&_}
+use mathlib.Core.List.{List, _∷_}
+use Prim.Native.Nat.{ℕ, _+_, _≤_}
+use native.Mathlib.Omega.{arith}
+use lib.ListN.{length, getD, drop, length-take, length-drop}
+use lib.Dec.{eqb, leb}
+use Rattle.base.proofs.Booleans.{and-left, and-right}
+use Rattle.chunk.specs.declared.Entry.{Entry}
+use Rattle.chunk.specs.Header.{size, kind, span, imageSize, healthSize, legalSize, legal, headed, ends, confirmed}
+use Rattle.chunk.specs.Reading.{entry}
+use Rattle.chunk.proofs.Headers.{headed-parts}
+use Rattle.parity_units.specs.Split.{dataWords, dataWordsIn}
+use Rattle.parity_units.proofs.Split.{data-words, words-append}
+use Rattle.frame.specs.Picture.{payloadOf, chunkUnits, unitsOf}
+
+-- an image chunk that is confirmed has a legal size for its kind
+pub image-size : (sync : ℕ) (ws : List ℕ) → confirmed sync ws ≡ true → eqb (kind (getD ws 1 0)) 0 ≡ true → imageSize (size (getD ws 1 0)) ≡ true
+unfolding confirmed legal legalSize
+image-size sync ws e i =
+    let h : ℕ = getD ws 1 0 in
+    let l : legal h ≡ true = headed-parts sync ws (and-left (headed sync ws) (ends sync (span h) ws) e) .2 in
+    let s : legalSize (kind h) (size h) ≡ true = and-left (legalSize (kind h) (size h)) _ l in
+    rw i at (and-right (leb 1 (size h) && leb (size h) 8190) (cond (eqb (kind h) 0) (imageSize (size h)) (healthSize (size h))) s)
+
+-- the payload of a chunk that lies within the words
+pub payload-length : (ws : List ℕ) (at h : ℕ) → at + span h ≤ length ws → length (payloadOf ws (entry at h)) ≡ size h
+payload-length ws at h w = omega (arith, length-take (size h) (drop (at + 2) ws), length-drop (at + 2) ws)
+
+-- one chunk more
+pub data-more : (ws : List ℕ) (at h : ℕ) (es : List Entry) → at + span h ≤ length ws
+    → dataWords (unitsOf ws (entry at h ∷ es)) ≡ dataWordsIn (size h) + dataWords (unitsOf ws es)
+unfolding unitsOf
+data-more ws at h es w =
+    words-append (chunkUnits ws (entry at h)) (unitsOf ws es)
+    ∙ ap (λ (n : ℕ). n + dataWords (unitsOf ws es)) (data-words (payloadOf ws (entry at h)) ∙ ap dataWordsIn (payload-length ws at h w))

@@ -1,0 +1,2 @@
+-- Laws of going through a recording.
+pub mod Stepping

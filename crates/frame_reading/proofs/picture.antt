@@ -1,0 +1,2 @@
+-- Laws of the walk over the chunks of a frame.
+mod Along

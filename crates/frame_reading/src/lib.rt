@@ -1,0 +1,108 @@
+// An asked frame: what it is, whether its data can be had, and its data. Each call starts from the one before it, so a frame is measured once, judged once
+// and read once.
+mod picture;
+
+use base::Words;
+use base::limit;
+use base::refusal;
+use chunk_reading::place;
+use frame::Frame;
+use frame::Piece;
+use frame::pieces;
+ghost use mathlib.Core.Path.{_≡_};
+ghost use lib.ListN.{length};
+ghost use Rattle.base.specs.Refusal.{verdict};
+ghost use Rattle.frame_reading.specs.Replies.{refused, atCauses, atReply, judgeReply, readReply, readRoom};
+
+fn refused(number: u8) -> Frame
+    ensures { λ r. ⌜ r ≡ refused number ⌝ }
+{
+    Frame {
+        refusal: number,
+        camera: 0,
+        chunks: 0,
+        complete: false,
+        length: Words(0),
+    }
+}
+
+// The refusal number for a place of a recording.
+fn find(recording: &[u16], sync: u16, place: Words) -> u8
+    ensures { λ r. ⌜ r ≡ verdict (atCauses sync (now (recording .entry)) (place .0)) ⌝ }
+{
+    if limit::too_long(recording) {
+        return refusal::LENGTH;
+    }
+    if !place::is_listed(recording, sync, place) {
+        return refusal::NOTHING_THERE;
+    }
+    let begins = place.0;
+    refusal::cause(
+        refusal::NOTHING_THERE,
+        !frame::starts(recording[begins + 1]),
+        0,
+    )
+}
+
+// What the frame at a place is, complete or cut: the first piece of the words from there on.
+pub fn at(recording: &[u16], sync: u16, place: Words) -> Frame
+    ensures { λ r. ⌜ r ≡ atReply sync (now (recording .entry)) (place .0) ⌝ }
+{
+    let verdict = find(recording, sync, place);
+    if verdict != 0 {
+        return refused(verdict);
+    }
+    let from = place.0;
+    let piece = pieces::next(&recording[from..], sync, Words(0));
+    match piece {
+        Piece::Whole(_, frame, _) => frame,
+        Piece::Stray(_, _) => refused(refusal::NOTHING_THERE),
+        Piece::End => refused(refusal::NOTHING_THERE),
+    }
+}
+
+// Whether the frame's data can be had: it is complete, and no unit of it is refused.
+pub fn judge(recording: &[u16], sync: u16, place: Words) -> Frame
+    ensures { λ r. ⌜ r ≡ judgeReply sync (now (recording .entry)) (place .0) ⌝ }
+{
+    let frame = at(recording, sync, place);
+    if frame.refusal != 0 {
+        return frame;
+    }
+    if !frame.complete {
+        return refused(refusal::FRAME_CUT);
+    }
+    let begins = place.0;
+    if picture::damaged(&recording[begins..], frame.chunks) {
+        return refused(refusal::PARITY);
+    }
+    frame
+}
+
+// The reader's reply, for a room of so many words.
+fn look(recording: &[u16], sync: u16, place: Words, room: usize) -> Frame
+    ensures { λ r. ⌜ r ≡ readReply sync (now (recording .entry)) (place .0) room ⌝ }
+{
+    let frame = judge(recording, sync, place);
+    if frame.refusal != 0 {
+        return frame;
+    }
+    if room < frame.length.0 {
+        return refused(refusal::ROOM);
+    }
+    frame
+}
+
+// The frame's data to the room.
+pub fn read(recording: &[u16], sync: u16, place: Words, room: &mut [u16]) -> Frame
+    ensures { λ r. ⌜ r ≡ readReply sync (now (recording .entry)) (place .0) (length (now (room .entry))) ⌝ }
+    ensures { λ _. ⌜ now (room .exit) ≡ readRoom sync (now (recording .entry)) (place .0) (now (room .entry)) ⌝ }
+{
+    let frame = look(recording, sync, place, room.len());
+    if frame.refusal != 0 {
+        return frame;
+    }
+    let start = place.0;
+    picture::data(&recording[start..], frame.chunks, room);
+    frame
+}

@@ -1,0 +1,131 @@
+-- The search for the last place where a test holds: from the back of a row of packets, and chunk by chunk of a reading.
+use mathlib.Core.Path.{_≡_, refl, sym, ap, _∙_}
+use mathlib.Core.Bool.{Bool, true, false, cond}
+use mathlib.Core.List.{List, [], _∷_, _++_}
+use Prim.Native.Nat.{ℕ, zero, suc, _+_, _-_, _*_, _/_, _≤_, _<_}
+use native.Mathlib.Nat.{add-zero}
+use native.Mathlib.Omega.{arith}
+use lib.ListN.{length, getD, take, drop}
+use lib.Seq.{getD-take, getD-drop}
+use lib.Dec.{lit<}
+use borrow.Author.Tests.{eq-eqb, ne-eqb}
+use Rattle.chunk.specs.declared.Entry.{Entry}
+use Rattle.chunk.specs.Header.{kind, size}
+use Rattle.chunk.specs.Reading.{listed}
+use Rattle.chunk.proofs.Steps.{Next, Last}
+use Rattle.health.specs.Packet.{packetType, soundPacket}
+use Rattle.health_last.specs.declared.Sought.{Sought}
+use Rattle.health_last.specs.declared.Sought.the-variants.{At, Nowhere}
+use Rattle.health_last.specs.Packets.{packetPlaces, chunkPlaces, placesOf, soundOf, later, lastWhere}
+use Rattle.health_last.specs.Last.{inScience}
+
+-- ---- the later of two
+
+later-none : (s : Sought) → later s Nowhere ≡ s
+later-none (At p) = refl
+later-none Nowhere = refl
+
+later-assoc : (a b c : Sought) → later (later a b) c ≡ later a (later b c)
+later-assoc (At p) b c = refl
+later-assoc Nowhere b c = refl
+
+-- ---- one place
+
+-- the type of the packet at a place is the word there
+type-at : (ws : List ℕ) (p : ℕ) → packetType (take 32 (drop p ws)) ≡ getD ws p 0
+type-at ws p = getD-take 32 (drop p ws) 0 0 (lit< tt) ∙ getD-drop p ws 0 0 ∙ ap (λ (n : ℕ). getD ws n 0) (add-zero p)
+
+module _ (t : ℕ) (ws : List ℕ) (p : ℕ) where
+  pub other-type : (getD ws p 0 ≡ t → ⊥) → soundOf ws t p ≡ false
+  unfolding soundOf
+  other-type h = simp (ne-eqb _ t (λ e. h (sym (type-at ws p) ∙ e)))
+
+  pub own-type : getD ws p 0 ≡ t → soundOf ws t p ≡ soundPacket (take 32 (drop p ws))
+  unfolding soundOf
+  own-type h = simp (eq-eqb _ t (type-at ws p ∙ h))
+
+module _ (f : ℕ → Bool) where
+  last-append : (a b : List ℕ) → lastWhere f (a ++ b) ≡ later (lastWhere f b) (lastWhere f a)
+  unfolding lastWhere
+  last-append [] b = sym (later-none (lastWhere f b))
+  last-append (p ∷ a) b =
+      ap (λ (s : Sought). later s (cond (f p) (At (record { 0 = p })) Nowhere)) (last-append a b)
+      ∙ later-assoc (lastWhere f b) (lastWhere f a) (cond (f p) (At (record { 0 = p })) Nowhere)
+
+  -- ---- a row of packets, from the back
+
+  row-back : (n from : ℕ) → packetPlaces (suc n) from ≡ packetPlaces n from ++ (from + 32 * n) ∷ []
+  unfolding packetPlaces
+  row-back zero from = ap (λ (q : ℕ). q ∷ []) (omega arith)
+  row-back (suc n) from =
+      ap (λ (ps : List ℕ). from ∷ ps)
+      (row-back n (from + 32) ∙ ap (λ (q : ℕ). packetPlaces n (from + 32) ++ q ∷ []) (omega arith))
+
+  from-back : (n from : ℕ) (b : Bool) → f (from + 32 * n) ≡ b
+      → lastWhere f (packetPlaces (suc n) from) ≡ cond b (At (record { 0 = from + 32 * n })) (lastWhere f (packetPlaces n from))
+  unfolding lastWhere
+  from-back n from b e =
+      ap (lastWhere f) (row-back n from) ∙ last-append (packetPlaces n from) ((from + 32 * n) ∷ [])
+      ∙ ap (λ (x : Bool). later (cond x (At (record { 0 = from + 32 * n })) Nowhere) (lastWhere f (packetPlaces n from))) e ∙ by-cases b
+    where
+      by-cases : (b : Bool) → later (cond b (At (record { 0 = from + 32 * n })) Nowhere) (lastWhere f (packetPlaces n from))
+          ≡ cond b (At (record { 0 = from + 32 * n })) (lastWhere f (packetPlaces n from))
+      by-cases true = refl
+      by-cases false = refl
+
+  module _ (n from : ℕ) (h : 0 < n) where
+    one-less : suc (n - 1) ≡ n
+    one-less = omega arith
+
+    pub last-found : f (from + 32 * (n - 1)) ≡ true → At (record { 0 = from + 32 * (n - 1) }) ≡ lastWhere f (packetPlaces n from)
+    last-found e = sym (from-back (n - 1) from true e) ∙ ap (λ (k : ℕ). lastWhere f (packetPlaces k from)) one-less
+
+    pub last-before : f (from + 32 * (n - 1)) ≡ false → lastWhere f (packetPlaces (n - 1) from) ≡ lastWhere f (packetPlaces n from)
+    last-before e = sym (from-back (n - 1) from false e) ∙ ap (λ (k : ℕ). lastWhere f (packetPlaces k from)) one-less
+
+  pub none-left : (n from : ℕ) → n ≡ 0 → lastWhere f (packetPlaces n from) ≡ Nowhere
+  unfolding packetPlaces lastWhere
+  none-left n from e = ap (λ (k : ℕ). lastWhere f (packetPlaces k from)) e
+
+-- ---- a chunk
+
+module _ (e : Entry) where
+  pub no-packets : (f : ℕ → Bool) → (kind (e .header) ≡ 1 → ⊥) → lastWhere f (chunkPlaces e) ≡ Nowhere
+  unfolding chunkPlaces lastWhere
+  no-packets f h = simp (ne-eqb (kind (e .header)) 1 h)
+
+  pub chunk-packets : kind (e .header) ≡ 1 → chunkPlaces e ≡ packetPlaces (size (e .header) / 32) (e .position .0 + 2)
+  unfolding chunkPlaces
+  chunk-packets h = simp (eq-eqb (kind (e .header)) 1 h)
+
+-- ---- a science recording, chunk by chunk
+
+-- what is left of the reading at a place, after what was found before it, gives the answer
+pub record Sifted (sync t : ℕ) (ws : List ℕ) (at : ℕ) (last : Sought) : Type 0 where
+  pub within : at ≤ length ws
+  pub answers : later (lastWhere (soundOf ws t) (placesOf (listed sync at 0 (drop at ws)))) last ≡ inScience sync ws t
+
+module _ (sync t : ℕ) (ws : List ℕ) where
+  pub none-sifted : Sifted sync t ws 0 Nowhere
+  none-sifted = record { within = omega arith; answers = later-none (inScience sync ws t) }
+
+  pub chunk-sifted : {at : ℕ} {last : Sought} → Sifted sync t ws at last → {e : Entry} {n : ℕ} → Next sync ws at e n
+      → {found now : Sought} → found ≡ lastWhere (soundOf ws t) (chunkPlaces e) → now ≡ later found last → Sifted sync t ws n now
+  unfolding placesOf
+  chunk-sifted {at} {last} s {e} {n} k {found} {now} ef en =
+      let f = soundOf ws t in
+      let ahead : Sought = lastWhere f (placesOf (listed sync n 0 (drop n ws))) in
+      let from-here : lastWhere f (placesOf (listed sync at 0 (drop at ws))) ≡ later ahead (lastWhere f (chunkPlaces e)) =
+      ap (λ (es : List Entry). lastWhere f (placesOf es)) (k .lists) ∙ last-append f (chunkPlaces e) (placesOf (listed sync n 0 (drop n ws))) in
+      record {
+        within = k .within;
+        answers =
+            ap (later ahead) (en ∙ ap (λ (x : Sought). later x last) ef)
+            ∙ sym (later-assoc ahead (lastWhere f (chunkPlaces e)) last)
+            ∙ ap (λ (x : Sought). later x last) (sym from-here)
+            ∙ s .answers;
+      }
+
+  pub all-sifted : {at : ℕ} {last : Sought} → Sifted sync t ws at last → Last sync ws at → last ≡ inScience sync ws t
+  unfolding placesOf lastWhere
+  all-sifted {at} {last} s n = ap (λ (es : List Entry). later (lastWhere (soundOf ws t) (placesOf es)) last) (sym (n .lists)) ∙ s .answers

@@ -1,0 +1,4 @@
+pub mod Split
+pub mod Judging
+pub mod Joining
+pub mod Counting

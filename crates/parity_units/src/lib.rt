@@ -1,0 +1,125 @@
+// The units of a payload, which splits into units of 264 words, the last one possibly shorter. Every function takes a payload of any length: a last part
+// that is too short for a unit is refused by the unit judge, and has no data.
+use base::Words;
+use base::refusal;
+use parity::Judged;
+ghost use mathlib.Core.Path.{_≡_};
+ghost use mathlib.Core.Bool.{cond};
+ghost use Prim.Native.Nat.{_+_, _-_, _≤_, min};
+ghost use lib.ListN.{length};
+ghost use Rattle.parity_units.specs.Split.{unitsIn, anyDamaged, dataWordsIn};
+ghost use Rattle.parity_units.specs.Replies.{joinReply, joinRoom, outcomeOf, outcomes};
+
+// the words of a whole unit, and its parity words
+pub const UNIT: usize = 264;
+
+const PARITY: usize = 8;
+
+// How many units there are of each outcome.
+pub struct Outcomes {
+    pub sound: usize,
+    pub hit: usize,
+    pub repaired: usize,
+    pub refused: usize,
+}
+
+// The data words of a payload of n words.
+pub fn data_words(n: Words) -> Words
+    ensures { λ r. ⌜ r .0 ≡ dataWordsIn (n .0) ⌝ }
+{
+    let whole = n.0 / UNIT * (UNIT - PARITY);
+    let last = n.0 % UNIT;
+    if last < PARITY {
+        return Words(whole);
+    }
+    Words(whole + (last - PARITY))
+}
+
+// Where the unit ends that begins at a place of a payload of n words.
+fn unit_end(at: usize, n: usize) -> usize
+    requires { ⌜ at ≤ n ⌝ }
+    ensures { λ r. ⌜ r ≡ at + min 264 (n - at) ⌝ }
+{
+    if n - at < UNIT { n } else { at + UNIT }
+}
+
+// Whether a unit of the payload is refused with 6.
+pub fn damaged(payload: &[u16]) -> bool
+    ensures { λ r. ⌜ r ≡ anyDamaged (unitsIn (now (payload .entry))) ⌝ }
+{
+    let n = payload.len();
+    let mut at = 0;
+    while at < n {
+        let end = unit_end(at, n);
+        if parity::judge_unit(&payload[at..end]).refusal == refusal::PARITY {
+            return true;
+        }
+        at = end;
+    }
+    false
+}
+
+// The data of the payload's accepted units, joined, to a place of the room, where it has room for the data of all units; the number of words written.
+pub fn join(payload: &[u16], room: &mut [u16], place: Words) -> Words
+    ensures { λ r. ⌜ r .0 ≡ joinReply (now (payload .entry)) (place .0) (length (now (room .entry))) ⌝ }
+    ensures { λ _. ⌜ now (room .exit) ≡ joinRoom (now (payload .entry)) (place .0) (now (room .entry)) ⌝ }
+{
+    let n = payload.len();
+    let from = place.0;
+    let most = data_words(Words(n)).0;
+    if room.len() < most {
+        return Words(0);
+    }
+    if room.len() - most < from {
+        return Words(0);
+    }
+    let mut at = 0;
+    let mut to = from;
+    while at < n {
+        let end = unit_end(at, n);
+        let unit = parity::check_unit(&payload[at..end], &mut room[to..]);
+        to += unit.length.0;
+        at = end;
+    }
+    Words(to - from)
+}
+
+// What becomes of a unit: 0 sound, 1 a parity bit was hit, 2 repaired, 3 refused.
+fn outcome_of(unit: Judged) -> u8
+    ensures { λ r. ⌜ r ≡ outcomeOf unit ⌝ }
+{
+    if unit.refusal == 0 { unit.case } else { 3 }
+}
+
+fn one_if(test: bool) -> usize
+    ensures { λ r. ⌜ r ≡ cond test 1 0 ⌝ }
+{
+    if test { 1 } else { 0 }
+}
+
+// The payload's units, counted by outcome.
+pub fn count(payload: &[u16]) -> Outcomes
+    ensures { λ r. ⌜ r ≡ outcomes (unitsIn (now (payload .entry))) ⌝ }
+{
+    let n = payload.len();
+    let mut sound = 0;
+    let mut hit = 0;
+    let mut repaired = 0;
+    let mut refused = 0;
+    let mut at = 0;
+    while at < n {
+        let end = unit_end(at, n);
+        let outcome = outcome_of(parity::judge_unit(&payload[at..end]));
+        sound += one_if(outcome == 0);
+        hit += one_if(outcome == 1);
+        repaired += one_if(outcome == 2);
+        refused += one_if(outcome == 3);
+        at = end;
+    }
+    Outcomes {
+        sound,
+        hit,
+        repaired,
+        refused,
+    }
+}

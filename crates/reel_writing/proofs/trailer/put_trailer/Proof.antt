@@ -1,0 +1,34 @@
+-- `reel_writing::trailer::put_trailer` meets its contract: two writes end to end.
+use Rattle.reel_writing.proofs.trailer.Putting.{trailer-put}
+use borrow.Author.Needs.{needs}
+use Rattle.reel_writing.proofs.trailer.put_trailer.Statement.{statement}
+use Rattle.reel_writing.proofs.trailer.put_trailer.Tie as tie
+
+returns : tie.Need-returns
+returns c =
+    let q = c .before .before in
+    let w = q .before .before .before in
+    let r = w .before .before .before .before .before in
+    let a = r .before .before .before .before .args in
+    trailer-put (a .n) (a .count) _ (a .room .now) _ _ (r .before .before .before .before .pre .2) (r .put-words .ensures) (w .words .ensures) (q .put-words2 .ensures)
+
+pub put-trailer-spec : {M : Type 1} → statement M
+put-trailer-spec =
+    tie.close
+    (tie.spec
+    (λ c. search needs)
+    (λ c. search needs)
+    (λ c. search needs)
+    (λ c. search needs)
+    (λ c. search needs)
+    (λ c κs. search needs)
+    (λ c. search needs)
+    (λ c. search needs)
+    (λ c. search needs)
+    (λ c. search needs)
+    (λ c. search needs)
+    (λ c κs. search needs)
+    (λ c. search needs)
+    (λ c κs. search needs)
+    (λ c. search needs)
+    returns)
