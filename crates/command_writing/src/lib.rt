@@ -95,7 +95,9 @@ fn place(fields: Fields, further: &[u8], room: &mut [u8])
     let n = further.len();
     let front = head(fields, LEAST + n);
     let crc = crc::bytes(crc::bytes(crc::START, &front), further);
-    let last = [number::high_byte(crc), number::low_byte(crc)];
+    let high = number::high_byte(crc);
+    let low = number::low_byte(crc);
+    let last = [high, low];
     room::put_bytes(&front, room, Bytes(0));
     room::put_bytes(further, room, Bytes(HEAD));
     room::put_bytes(&last, room, Bytes(HEAD + n));

@@ -88,6 +88,16 @@ pub fn sound_at(words: &[u16], at: Words) -> bool
     is_sound(&words[from..end])
 }
 
+// The 29 words after the first three.
+fn words_of(packet: &[u16]) -> [u16; 29]
+    requires { ⌜ length (now packet) ≡ 32 ⌝ }
+    ensures { λ r. ⌜ r ≡ drop 3 (now (packet .entry)) ⌝ }
+{
+    let mut words = [0u16; 29];
+    room::put_words(&packet[3..], &mut words, Words(0));
+    words
+}
+
 fn refused(number: u8) -> Packet
     ensures { λ r. ⌜ r ≡ refused number ⌝ }
 {
@@ -107,13 +117,11 @@ pub fn read_packet(packet: &[u16]) -> Packet
     if verdict != 0 {
         return refused(verdict);
     }
-    let mut words = [0u16; 29];
-    room::put_words(&packet[3..], &mut words, Words(0));
     Packet {
         refusal: 0,
         packet_type: room::word_at(packet, Words(0)),
         time: room::word_at(packet, Words(2)),
-        words,
+        words: words_of(packet),
     }
 }
 
