@@ -82,7 +82,7 @@ inOrder order [] = true
 inOrder [] (c ∷ cs) = false
 inOrder (n ∷ order) (c ∷ cs) = elim (eqb n (c .0)) [ true ↦ inOrder order cs | false ↦ inOrder order (c ∷ cs) ]
 
--- the causes follow the paper's order
+-- the causes follow this order
 abbrev pub followsPaper : Causes → Bool
 followsPaper = inOrder paperOrder
 

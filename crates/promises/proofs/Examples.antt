@@ -1,4 +1,4 @@
--- The examples of document 01, by computation.
+-- The examples, by computation.
 use mathlib.Core.Path.{_≡_, refl}
 use mathlib.Core.List.{[], _∷_}
 use lib.ListN.{getD, replicate}

@@ -1,6 +1,6 @@
--- Demand 1. "Every public call accepts every input and ends. Bad input gets document 01's refusal number, in its order, zeros in the rest of the answer, and
--- no lent word or byte altered." That every call accepts every input and ends is the proof of each function, which has no `requires`. What is left:
--- the order of the causes, the answer to a refusal, and that a contract leaves one answer only.
+-- FORMAT, "The three demands", the first: every public call accepts every input and ends, and a refusal has its number, in order, with zeros beside it and
+-- nothing altered. That every call accepts every input and ends is the proof of each function, which has no `requires`. What is left: the order of the
+-- causes, the answer to a refusal, and that a contract leaves one answer only.
 use Prim.Native.Nat.{ℕ}
 use mathlib.Core.Path.{_≡_}
 use mathlib.Core.Bool.{true}
@@ -36,7 +36,7 @@ Determined = (A : Type 0) (definition r s : A) → r ≡ definition → s ≡ de
 
 -- ---- the order of the causes
 
--- every call's causes stand in the paper's order
+-- every call's causes stand in the order of FORMAT, "Refusal numbers"
 pub record Ordered : Type 0 where
   pub recording : (ws : List ℕ) → followsPaper (surveyCauses ws) ≡ true
   pub place : (sync p : ℕ) (ws : List ℕ) → followsPaper (atCauses sync ws p) ≡ true

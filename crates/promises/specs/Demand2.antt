@@ -1,6 +1,5 @@
--- Demand 2. "Chunks, health packets, parity units, commands and reels are read and written, and frames assembled, exactly as document 01 says. What the
--- writers write, the readers give back. One flipped bit anywhere in a written parity unit is found, and the data come back right." That each call does
--- what document 01 says is its contract; these are the round trips and the single flip.
+-- FORMAT, "The three demands", the second: each call does what the rules say, the readers give back what the writers write, and one flipped bit anywhere
+-- in a written unit is found and put right. That each call does what the rules say is its contract; these are the round trips and the single flip.
 use Prim.Native.Nat.{ℕ}
 use mathlib.Core.Path.{_≡_}
 use mathlib.Core.Bool.{true}

@@ -1,6 +1,6 @@
--- Demand 3. "After arbitrary words, a clean stretch up to the end of a recording is read as it is read alone: every chunk that begins 8,185 words or more
--- after the stretch's start is listed, and from the first of its chunks that is listed the list, and every frame that starts there, is exactly that of
--- the stretch alone."
+-- FORMAT, "The three demands", the third: after any words, a clean stretch up to the end of a recording is read as it is read alone. Every chunk that begins
+-- 8,185 words or more after the stretch's start is listed; from the first of its chunks that is listed the list is that of the stretch alone, and so is
+-- every frame that starts there.
 use Prim.Native.Nat.{ℕ, _≤_}
 use mathlib.Core.Path.{_≡_}
 use mathlib.Core.Bool.{true}

@@ -1,4 +1,4 @@
--- Document 01, "Examples to prove": the eleven, of the very definitions that the contracts give as replies and rooms.
+-- Eleven examples of FORMAT, of the very definitions that the contracts give as replies and rooms.
 use Prim.Native.Nat.{ℕ}
 use mathlib.Core.Path.{_≡_}
 use mathlib.Core.Bool.{true, false}
