@@ -77,11 +77,11 @@ no-header sync (w ∷ []) h = refl
 no-header sync (w ∷ v ∷ l) h = absurd (omega arith)
 
 end-shifted : (n at l end : ℕ) → at + n ≡ end → at ≤ l → eqb n (l - at) ≡ eqb end l
-end-shifted n at l end e h = go (eqb end l) refl
+end-shifted n at l end e h = by-end (eqb end l) refl
   where
-    go : (b : Bool) → eqb end l ≡ b → eqb n (l - at) ≡ b
-    go true z = eq-eqb n (l - at) (omega (arith, eqb-true end l z))
-    go false z = ne-eqb n (l - at) (λ q. eqb-false end l z (omega arith))
+    by-end : (b : Bool) → eqb end l ≡ b → eqb n (l - at) ≡ b
+    by-end true z = eq-eqb n (l - at) (omega (arith, eqb-true end l z))
+    by-end false z = ne-eqb n (l - at) (λ q. eqb-false end l z (omega arith))
 
 module _ (sync : ℕ) (ws : List ℕ) (at : ℕ) where
   pub headed-none : length ws < at + 2 → headed sync (drop at ws) ≡ false

@@ -215,9 +215,9 @@ module _ (sync : ℕ) (ws : List ℕ) where
   unfolding found
   found-end p h = ap (found sync p) (drop-of-length-le ws h)
 
-  first : (k p : ℕ) (e : Entry) (next : Words) → length ws ≤ p + k → nextFrom sync ws p ≡ Found.Chunk e next → First p e next
-  first zero p e next h f = let z : _≡_ {A = ℕ} 0 1 = cc (found-end p (omega arith)) in absurd (omega arith)
-  first (suc k) p e next h f = by-end (first k (suc p) e next (omega arith)) (ltb p (length ws)) refl
+  first-confirmed : (k p : ℕ) (e : Entry) (next : Words) → length ws ≤ p + k → nextFrom sync ws p ≡ Found.Chunk e next → First p e next
+  first-confirmed zero p e next h f = let z : _≡_ {A = ℕ} 0 1 = cc (found-end p (omega arith)) in absurd (omega arith)
+  first-confirmed (suc k) p e next h f = by-end (first-confirmed k (suc p) e next (omega arith)) (ltb p (length ws)) refl
     where
       by-check : (nextFrom sync ws (suc p) ≡ Found.Chunk e next → First (suc p) e next) → p < length ws → (b : Bool) → confirmed sync (drop p ws) ≡ b → First p e next
       by-check more l true z =
@@ -241,9 +241,9 @@ module _ (sync : ℕ) (ws : List ℕ) where
       by-end more false l = let z : _≡_ {A = ℕ} 0 1 = cc (found-end p (ltb-false p (length ws) l)) in absurd (omega arith)
 
   -- no chunk is found: none is confirmed from here on
-  none : (k p : ℕ) → length ws ≤ p + k → nextFrom sync ws p ≡ Found.End → Noise sync ws p (length ws)
-  none zero p h f = λ i a b. absurd (omega arith)
-  none (suc k) p h f = by-end (none k (suc p) (omega arith)) (ltb p (length ws)) refl
+  none-confirmed : (k p : ℕ) → length ws ≤ p + k → nextFrom sync ws p ≡ Found.End → Noise sync ws p (length ws)
+  none-confirmed zero p h f = λ i a b. absurd (omega arith)
+  none-confirmed (suc k) p h f = by-end (none-confirmed k (suc p) (omega arith)) (ltb p (length ws)) refl
     where
       by-check : (nextFrom sync ws (suc p) ≡ Found.End → Noise sync ws (suc p) (length ws)) → p < length ws → (b : Bool) → confirmed sync (drop p ws) ≡ b → Noise sync ws p (length ws)
       by-check more l true z = let x : _≡_ {A = ℕ} 0 1 = cc (found-here sync ws p l z) in absurd (omega arith)
@@ -297,7 +297,7 @@ pub record Last (sync : ℕ) (ws : List ℕ) (p : ℕ) : Type 0 where
 module _ (sync : ℕ) (ws : List ℕ) (p : ℕ) where
   pub stepped : (e : Entry) (next : Words) → nextFrom sync ws p ≡ Found.Chunk e next → Next sync ws p e (next .0)
   stepped e next f =
-      let r : First sync ws p e next = first sync ws (length ws) p e next (omega arith) f in
+      let r : First sync ws p e next = first-confirmed sync ws (length ws) p e next (omega arith) f in
       let q : ℕ = e .position .0 in
       let h : getD ws (suc q) 0 ≡ e .header = sym (ap (λ (x : Entry). x .header) (r .word)) in
       let to : q + span (getD ws (suc q) 0) ≡ next .0 = ap (λ (x : ℕ). q + span x) h ∙ sym (r .end) in
@@ -337,7 +337,7 @@ module _ (sync : ℕ) (ws : List ℕ) (p : ℕ) where
   ended f = record { noise = λ i a. silent i a (ltb i (length ws)) refl; lists = by-end (ltb p (length ws)) refl .0; skips = by-end (ltb p (length ws)) refl .1 }
     where
       quiet : Noise sync ws p (length ws)
-      quiet = none sync ws (length ws) p (omega arith) f
+      quiet = none-confirmed sync ws (length ws) p (omega arith) f
 
       silent : (i : ℕ) → p ≤ i → (b : Bool) → ltb i (length ws) ≡ b → confirmed sync (drop i ws) ≡ false
       silent i a true l = quiet i a (ltb-true i (length ws) l)

@@ -46,8 +46,8 @@ row-holds sync before c after k =
 -- ---- the fields of a header word that is made of them
 
 module _ (k c : ℕ) (payload : List ℕ) (w : accepted k c payload ≡ true) where
-  fits : (k ≤ 1) × (c ≤ 3) × (eqb k 0 || eqb c 0 ≡ true)
-  fits = writable-bounds k c (and-left (writable k c) _ w)
+  accepted-bounds : (k ≤ 1) × (c ≤ 3) × (eqb k 0 || eqb c 0 ≡ true)
+  accepted-bounds = writable-bounds k c (and-left (writable k c) _ w)
 
   legal-length : legalSize k (length payload) ≡ true
   legal-length = and-right (writable k c) _ w
@@ -56,19 +56,19 @@ module _ (k c : ℕ) (payload : List ℕ) (w : accepted k c payload ≡ true) wh
   small = legal-size k (length payload) legal-length .1
 
   pub kind-written : kind (headerWord k c (length payload)) ≡ k
-  kind-written = omega (arith, fits, small)
+  kind-written = omega (arith, accepted-bounds, small)
 
   pub camera-written : camera (headerWord k c (length payload)) ≡ c
-  camera-written = omega (arith, fits, small)
+  camera-written = omega (arith, accepted-bounds, small)
 
   pub size-written : size (headerWord k c (length payload)) ≡ length payload
-  size-written = omega (arith, fits, small)
+  size-written = omega (arith, accepted-bounds, small)
 
   pub written-whole : whole (written k c payload) ≡ true
   unfolding legal
   written-whole =
       rw (kind-written, camera-written, size-written)
-      (and-both (legalSize k (length payload) && _) _ (and-both (legalSize k (length payload)) _ legal-length (fits .2))
+      (and-both (legalSize k (length payload) && _) _ (and-both (legalSize k (length payload)) _ legal-length (accepted-bounds .2))
       (eq-eqb (length payload) (length payload) refl))
 
 -- what the writer does not refuse

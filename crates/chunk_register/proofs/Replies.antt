@@ -23,30 +23,30 @@ module _ (sync : ℕ) (ws : List ℕ) where
       → (length (reading sync ws) ≤ length register → P (countReply sync ws) (entered (reading sync ws) register))
       → P (listReply sync ws (length register)) (listRoom sync ws register)
   unfolding listReply listRoom answer
-  refused-or-listed register P none all = go (eqb number 0) refl
+  refused-or-listed register P none all = by-verdict (eqb number 0) refl
     where
       number : ℕ
       number = verdict (listCauses sync ws (length register))
 
-      go : (b : Bool) → eqb number 0 ≡ b
+      by-verdict : (b : Bool) → eqb number 0 ≡ b
           → P (cond b (countReply sync ws) (refused number)) (cond b (entered (reading sync ws) register) register)
-      go true e = all (ltb-false _ _ (spared (listCauses sync ws (length register)) refl (eqb-true number 0 e) .1 .0))
-      go false e = none number
+      by-verdict true e = all (ltb-false _ _ (spared (listCauses sync ws (length register)) refl (eqb-true number 0 e) .1 .0))
+      by-verdict false e = none number
 
   module _ (entries : ℕ) where
     -- the survey of a recording that is too long counts no chunks
     pub too-few-refused : entries < surveyReply sync ws .chunks → refused noRoom ≡ listReply sync ws entries
     unfolding listReply answer
-    too-few-refused h = go (tooLong ws) refl
+    too-few-refused h = by-length (tooLong ws) refl
       where
-        go : (b : Bool) → tooLong ws ≡ b → refused noRoom ≡ listReply sync ws entries
-        go true e = let z : entries < 0 = rw e at h in absurd (omega arith)
-        go false e = rw (e, lt-ltb entries (length (reading sync ws)) (rw e at h))
+        by-length : (b : Bool) → tooLong ws ≡ b → refused noRoom ≡ listReply sync ws entries
+        by-length true e = let z : entries < 0 = rw e at h in absurd (omega arith)
+        by-length false e = rw (e, lt-ltb entries (length (reading sync ws)) (rw e at h))
 
     pub enough-surveyed : surveyReply sync ws .chunks ≤ entries → surveyReply sync ws ≡ listReply sync ws entries
     unfolding listReply answer
-    enough-surveyed h = go (tooLong ws) refl
+    enough-surveyed h = by-length (tooLong ws) refl
       where
-        go : (b : Bool) → tooLong ws ≡ b → surveyReply sync ws ≡ listReply sync ws entries
-        go true e = rw e
-        go false e = rw (e, le-ltb entries (length (reading sync ws)) (rw e at h))
+        by-length : (b : Bool) → tooLong ws ≡ b → surveyReply sync ws ≡ listReply sync ws entries
+        by-length true e = rw e
+        by-length false e = rw (e, le-ltb entries (length (reading sync ws)) (rw e at h))

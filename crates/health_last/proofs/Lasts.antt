@@ -28,20 +28,20 @@ abbrev pub Rising : ℕ → ℕ → List ℕ → Type 0
 Rising lo hi [] = lo ≤ hi
 Rising lo hi (p ∷ ps) = (lo ≤ p) × Rising (suc p) hi ps
 
-relax : {lo lo′ hi hi′ : ℕ} (ps : List ℕ) → lo ≤ lo′ → hi′ ≤ hi → Rising lo′ hi′ ps → Rising lo hi ps
-relax [] h k r = omega arith
-relax (p ∷ ps) h k r = (omega (arith, r .0), relax ps (omega arith) k (r .1))
+rising-wider : {lo lo′ hi hi′ : ℕ} (ps : List ℕ) → lo ≤ lo′ → hi′ ≤ hi → Rising lo′ hi′ ps → Rising lo hi ps
+rising-wider [] h k r = omega arith
+rising-wider (p ∷ ps) h k r = (omega (arith, r .0), rising-wider ps (omega arith) k (r .1))
 
-joined : (lo mid hi : ℕ) (ps qs : List ℕ) → Rising lo mid ps → Rising mid hi qs → Rising lo hi (ps ++ qs)
-joined lo mid hi [] qs r s = relax qs r (omega arith) s
-joined lo mid hi (p ∷ ps) qs r s = (r .0, joined (suc p) mid hi ps qs (r .1) s)
+rising-append : (lo mid hi : ℕ) (ps qs : List ℕ) → Rising lo mid ps → Rising mid hi qs → Rising lo hi (ps ++ qs)
+rising-append lo mid hi [] qs r s = rising-wider qs r (omega arith) s
+rising-append lo mid hi (p ∷ ps) qs r s = (r .0, rising-append (suc p) mid hi ps qs (r .1) s)
 
 -- ---- the places of packets rise
 
 row-rises : (n at hi : ℕ) → at + 32 * n ≤ hi → Rising at hi (packetPlaces n at)
 unfolding packetPlaces
 row-rises zero at hi h = omega arith
-row-rises (suc n) at hi h = (omega arith, relax (packetPlaces n (at + 32)) (omega arith) (omega arith) (row-rises n (at + 32) hi (omega arith)))
+row-rises (suc n) at hi h = (omega arith, rising-wider (packetPlaces n (at + 32)) (omega arith) (omega arith) (row-rises n (at + 32) hi (omega arith)))
 
 module _ (p h : ℕ) where
   chunk-rises : Rising p (p + span h) (chunkPlaces (entry p h))
@@ -49,14 +49,14 @@ module _ (p h : ℕ) where
   chunk-rises = by-kind (eqb (kind h) 1)
     where
       by-kind : (b : Bool) → Rising p (p + span h) (cond b (packetPlaces (size h / 32) (p + 2)) [])
-      by-kind true = relax (packetPlaces (size h / 32) (p + 2)) (omega arith) (omega arith) (row-rises (size h / 32) (p + 2) (p + 2 + 32 * (size h / 32)) (omega arith))
+      by-kind true = rising-wider (packetPlaces (size h / 32) (p + 2)) (omega arith) (omega arith) (row-rises (size h / 32) (p + 2) (p + 2 + 32 * (size h / 32)) (omega arith))
       by-kind false = omega arith
 
 reading-rises : (sync at left : ℕ) (ws : List ℕ) → left ≤ length ws → Rising (at + left) (at + length ws) (placesOf (listed sync at left ws))
 unfolding listed placesOf
 reading-rises sync at left [] h = omega arith
 reading-rises sync at (suc left) (w ∷ ws) h =
-    relax (placesOf (listed sync (suc at) left ws)) (omega arith) (omega arith) (reading-rises sync (suc at) left ws (omega arith))
+    rising-wider (placesOf (listed sync (suc at) left ws)) (omega arith) (omega arith) (reading-rises sync (suc at) left ws (omega arith))
 reading-rises sync at zero (w ∷ ws) h = by-check (λ left k. reading-rises sync (suc at) left ws k) (confirmed sync (w ∷ ws)) refl
   where
     by-check : ((left : ℕ) → left ≤ length ws → Rising (suc at + left) (suc at + length ws) (placesOf (listed sync (suc at) left ws)))
@@ -70,13 +70,13 @@ reading-rises sync at zero (w ∷ ws) h = by-check (λ left k. reading-rises syn
         let b = confirmed-within sync (w ∷ ws) e in
         let rows = chunk-rises at (getD ws 0 0) in
         let tail = placesOf (listed sync (suc at) (suc (size (getD ws 0 0))) ws) in
-        relax (chunkPlaces (entry at (getD ws 0 0)) ++ tail) (omega arith) (omega arith)
-        (joined at (at + span (getD ws 0 0)) (suc at + length ws) (chunkPlaces (entry at (getD ws 0 0))) tail rows
-        (relax tail (omega arith) (omega arith) (rest (suc (size (getD ws 0 0))) (omega (arith, b .0)))))
-    by-check rest false e = relax (placesOf (listed sync (suc at) zero ws)) (omega arith) (omega arith) (rest 0 (omega arith))
+        rising-wider (chunkPlaces (entry at (getD ws 0 0)) ++ tail) (omega arith) (omega arith)
+        (rising-append at (at + span (getD ws 0 0)) (suc at + length ws) (chunkPlaces (entry at (getD ws 0 0))) tail rows
+        (rising-wider tail (omega arith) (omega arith) (rest (suc (size (getD ws 0 0))) (omega (arith, b .0)))))
+    by-check rest false e = rising-wider (placesOf (listed sync (suc at) zero ws)) (omega arith) (omega arith) (rest 0 (omega arith))
 
 pub science-rises : (sync : ℕ) (ws : List ℕ) → Rising 0 (length ws) (sciencePlaces sync ws)
-science-rises sync ws = relax (sciencePlaces sync ws) (omega arith) (omega arith) (reading-rises sync 0 0 ws (omega arith))
+science-rises sync ws = rising-wider (sciencePlaces sync ws) (omega arith) (omega arith) (reading-rises sync 0 0 ws (omega arith))
 
 pub health-rises : (ws : List ℕ) → Rising 0 (length ws) (healthPlaces ws)
 health-rises ws = row-rises (length ws / 32) 0 (length ws) (omega arith)

@@ -47,15 +47,15 @@ module _ (sync : ℕ) (ws : List ℕ) (own from : ℕ) where
     }
 
     module _ (e : Entry) (n : ℕ) (s : Next sync ws end e n) where
-      here : (b : Bool) → eqb (e .position .0) end && eqb (kind (e .header)) own ≡ b → (k : ℕ)
+      runs-here : (b : Bool) → eqb (e .position .0) end && eqb (kind (e .header)) own ≡ b → (k : ℕ)
           → runsOn k own sync ws end ≡ cond b 0 (one k own) + countKind k (runs (listed sync end 0 (drop end ws)))
       unfolding runsOn
-      here b t k = ap (λ (c : Bool). cond c 0 (one k own) + countKind k (runs (listed sync end 0 (drop end ws)))) (ap (joins own end) (s .lists) ∙ t)
+      runs-here b t k = ap (λ (c : Bool). cond c 0 (one k own) + countKind k (runs (listed sync end 0 (drop end ws)))) (ap (joins own end) (s .lists) ∙ t)
 
       -- the runs from here on, where the next chunk joins this run or does not
       by-next : (b : Bool) → eqb (e .position .0) end && eqb (kind (e .header)) own ≡ b → (k : ℕ)
           → runsOn k own sync ws from ≡ cond b 0 (one k own) + runsOn k (kind (e .header)) sync ws n
-      by-next b t k = g .same k ∙ here b t k ∙ ap (λ (m : ℕ). cond b 0 (one k own) + m) (runs-from sync ws end e n s k)
+      by-next b t k = g .same k ∙ runs-here b t k ∙ ap (λ (m : ℕ). cond b 0 (one k own) + m) (runs-from sync ws end e n s k)
 
       same-end : {f : Entry} {m : Words} → Found.Chunk e (record { 0 = n }) ≡ Found.Chunk f m → record { 0 = n } ≡ m
       same-end q = cc

@@ -29,9 +29,9 @@ module _ (sync : ℕ) (ws room₀ : List ℕ) where
   none-indexed h = record { long = refl; fits = omega arith; counts = omega arith; written = ap (λ (n : ℕ). put (indexWords (reading sync ws)) n room₀) (add-zero (length ws)) }
 
   module _ (room : List ℕ) (from count : ℕ) (k : Indexed sync ws room₀ room from count) where
-    turned : (e : Entry) (n : ℕ) → Next sync ws from e n → Indexed sync ws room₀ (put (entryWords e) (length ws + entryWidth * count) room) n (count + 1)
+    entry-put : (e : Entry) (n : ℕ) → Next sync ws from e n → Indexed sync ws room₀ (put (entryWords e) (length ws + entryWidth * count) room) n (count + 1)
     unfolding indexWords
-    turned e n s =
+    entry-put e n s =
         let l : length (listedFrom sync ws from) ≡ suc (length (listedFrom sync ws n)) = ap length (s .lists) in
         let a : length ws + entryWidth * (count + 1) ≡ length ws + entryWidth * count + 2 = omega arith in
         let b : length (indexWords (listedFrom sync ws n)) ≡ entryWidth * length (listedFrom sync ws n) = index-length (listedFrom sync ws n) in
@@ -49,7 +49,7 @@ module _ (sync : ℕ) (ws room₀ : List ℕ) where
 
     pub entry-indexed : (e : Entry) (n : ℕ) → Next sync ws from e n → (r : List ℕ) → r ≡ put (entryWords e) (length ws + entryWidth * count) room
         → Indexed sync ws room₀ r n (count + 1)
-    entry-indexed e n s r er = rw er (turned e n s)
+    entry-indexed e n s r er = rw er (entry-put e n s)
 
     pub all-indexed : Last sync ws from → (count ≡ length (reading sync ws)) × (room ≡ put (indexWords (reading sync ws)) (length ws) room₀)
     unfolding indexWords
