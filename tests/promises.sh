@@ -1,7 +1,6 @@
 #!/usr/bin/env bash
-# docs/PROMISES.md names every must-fail edit, in a row of a call of the edit's crate, and no edit that is not there.
-# Edits are the words in backticks in the last column of a table whose heading ends in 'edits', or after 'edits:'; their crate is the first part of the
-# nearest path before them, as in `crate::module::function`.
+# docs/PROMISES.md is held to the repository: it names every public function and no other, every must-fail edit under a function of the edit's crate and
+# no other, and in its map every file is there and has the names that the map gives beside it.
 set -u
 cd "$(dirname "${BASH_SOURCE[0]}")/.." || exit 1
 python3 - <<'PYTHON'
@@ -9,28 +8,58 @@ import pathlib
 import re
 import sys
 
-there = {(path.parts[-3], path.stem) for path in pathlib.Path('crates').glob('*/must-fail/*.edit')}
-named = set()
-crate, table, listed = '', False, False
-for line in pathlib.Path('docs/PROMISES.md').read_text().splitlines():
-    row = line.strip().startswith('|')
-    cells = line.strip().strip('|').split('|')
-    if row and cells[-1].strip().endswith('edits'):
-        table = True
-    table = table and row
-    # an item of edits goes on in the lines below that are indented and begin no other item
-    starts = re.match(r'\s*(?:[-*] +)?edits?:', line)
-    listed = bool(starts) or (listed and bool(re.match(r'\s+[^\s*-]', line)))
-    edits = cells[-1] if table else line if listed else ''
-    path = re.search(r'`([a-z0-9_]+)::[A-Za-z0-9_:]+`', line)
-    if path:
-        crate = path.group(1)
-    named |= {(crate, edit) for edit in re.findall(r'`([a-z0-9_]+)`', edits)}
+text = pathlib.Path('docs/PROMISES.md').read_text()
+promised, _, rules = text.partition('# The map')
+wrong = []
 
-for crate, edit in sorted(named - there):
-    print(f'promises: docs/PROMISES.md names {edit} for a call of {crate}, and crates/{crate}/must-fail has no such edit')
-for crate, edit in sorted(there - named):
-    print(f'promises: no row of {crate} in docs/PROMISES.md names its edit {edit}')
-print(f'promises: {len(there)} edits, {len(there & named)} of them named')
-sys.exit(named != there)
+
+def compare(what, there, named):
+    wrong.extend(f'{what} {x} is not named' for x in sorted(there - named))
+    wrong.extend(f'{what} {x} is named and not there' for x in sorted(named - there))
+
+
+def public(crate):
+    """The public functions of a crate, each by its whole path."""
+    root = pathlib.Path('crates', crate, 'src/lib.rt')
+    if not root.exists():
+        return
+    modules = re.findall(r'^pub mod (\w+);', root.read_text(), re.M)
+    for path, prefix in [(root, crate)] + [(root.with_name(f'{m}.rt'), f'{crate}::{m}') for m in modules]:
+        owner = ''
+        for line in path.read_text().splitlines():
+            if line.startswith(('impl ', '}')):
+                owner = line.split()[1] + '::' if line.startswith('impl ') else ''
+            if found := re.match(r'\s*pub fn (\w+)', line):
+                yield f'{prefix}::{owner}{found.group(1)}'
+
+
+# an item goes on in the lines below it that are indented
+items = re.findall(r'^(?:\*\*|- ).*(?:\n  .*)*', text, re.M)
+functions = {f for crate in pathlib.Path('crates').iterdir() for f in public(crate.name)}
+descriptors = {f for f in functions if f.split('::')[-1] in ('take', 'flush', 'text', 'number') and f.startswith('program_')}
+compare('function', functions - descriptors, set(re.findall(r'^\*\*`([\w:]+)`\*\*', promised, re.M)))
+
+edits = {(path.parts[-3], path.stem) for path in pathlib.Path('crates').glob('*/must-fail/*.edit')}
+named, crate = set(), ''
+for item in items:
+    if item.startswith('**'):
+        crate = re.match(r'\*\*`(\w+)', item).group(1)
+    elif item.startswith('- edits:'):
+        named |= {(crate, edit) for edit in re.findall(r'`(\w+)`', item)}
+compare('edit', edits, named)
+
+for item in re.findall(r'^- .*(?:\n  .*)*', rules, re.M):
+    words = re.findall(r'`([^`\s]+)`', item)
+    files = [pathlib.Path(w if w.split('/')[0] in ('docs', 'tests', 'crates') else 'crates/' + w) for w in words if '/' in w and not w.endswith('/')]
+    for file in files:
+        if not file.exists() and not file.with_suffix('.edit').exists():
+            wrong.append(f'file {file} is in the map and not there')
+    told = ''.join(f.read_text() for f in files if f.suffix in ('.antt', '.rt') and f.exists())
+    if told:
+        wrong.extend(f'{w} is not in {files}' for w in words if re.fullmatch(r'[\w-]+', w) and not re.search(rf'(?<![\w-]){w}(?![\w-])', told))
+
+for line in wrong:
+    print('promises:', line)
+print(f'promises: {len(functions)} public functions, {len(edits)} edits, {len(wrong)} wrong')
+sys.exit(bool(wrong))
 PYTHON
