@@ -34,30 +34,30 @@ pub record Filled (all room₀ : List ℕ) (from : ℕ) (rest room : List ℕ) (
   pub fits : at + length rest ≤ length room
   pub long : length room ≡ length room₀
   pub ends : at + length rest ≡ from + length all
-  pub is : put rest at room ≡ put all from room₀
+  pub left : put rest at room ≡ put all from room₀
 
 module _ (all room₀ : List ℕ) (from : ℕ) where
-  pub start : from + length all ≤ length room₀ → Filled all room₀ from all room₀ from
-  start h = record { fits = h; long = refl; ends = refl; is = refl }
+  pub filled-none : from + length all ≤ length room₀ → Filled all room₀ from all room₀ from
+  filled-none h = record { fits = h; long = refl; ends = refl; left = refl }
 
   module _ (rest room : List ℕ) (at : ℕ) (k : Filled all room₀ from rest room at) where
-    pub turn : (part more : List ℕ) → rest ≡ part ++ more → (room₁ : List ℕ) → room₁ ≡ put part at room → (at₁ : ℕ) → at₁ ≡ at + length part
+    pub filled-more : (part more : List ℕ) → rest ≡ part ++ more → (room₁ : List ℕ) → room₁ ≡ put part at room → (at₁ : ℕ) → at₁ ≡ at + length part
         → Filled all room₀ from more room₁ at₁
-    turn part more e room₁ p at₁ q =
+    filled-more part more e room₁ p at₁ q =
         let n : length rest ≡ length part + length more = ap length e ∙ length-append part more in
         let l : length room₁ ≡ length room = ap length p ∙ put-length part at room in
         record {
           fits = omega (arith, k .fits);
           long = l ∙ k .long;
           ends = omega (arith, k .ends);
-          is =
+          left =
               ap (λ (i : ℕ). put more i room₁) q ∙ ap (put more (at + length part)) p ∙ put-put part more at room (omega (arith, k .fits))
-              ∙ ap (λ (r : List ℕ). put r at room) (sym e) ∙ k .is;
+              ∙ ap (λ (r : List ℕ). put r at room) (sym e) ∙ k .left;
         }
 
-    pub done : rest ≡ [] → (room ≡ put all from room₀) × (at ≡ from + length all)
-    done e =
+    pub filled-all : rest ≡ [] → (room ≡ put all from room₀) × (at ≡ from + length all)
+    filled-all e =
         let n : length rest ≡ 0 = ap length e in (
-          sym (put-nothing at room (omega (arith, k .fits))) ∙ ap (λ (r : List ℕ). put r at room) (sym e) ∙ k .is,
+          sym (put-nothing at room (omega (arith, k .fits))) ∙ ap (λ (r : List ℕ). put r at room) (sym e) ∙ k .left,
           omega (arith, k .ends),
         )

@@ -1,25 +1,25 @@
--- A turn of each loop: four words, and eight bytes as four words, bring the invariant of `Walk` on.
+-- A folded-one of each loop: four words, and eight bytes as four words, bring the invariant of `Walk` on.
 use mathlib.Core.Path.{_≡_, refl, _∙_}
 use mathlib.Core.List.{List}
 use Prim.Native.Nat.{ℕ, _+_, _<_, _≤_}
 use native.Mathlib.Nat.{add-assoc}
 use native.Mathlib.Omega.{arith}
 use lib.ListN.{length, getD, drop}
-use Rattle.base.proofs.Walk.{turn, turn4}
+use Rattle.base.proofs.Walk.{folded-one, folded-four}
 use Rattle.crc.specs.Crc.{crcStep, crcWords, crcBytes}
 use Rattle.crc.specs.Held.{wordsAt, pairAt, pairsAt}
 use Rattle.crc.proofs.Laws.{word-bytes}
 
 pub words-turn : (z : ℕ) (m : List ℕ) (i r : ℕ) {s : ℕ} → i + 4 ≤ length m → s ≡ crcWords r (wordsAt m i)
     → crcWords r (drop i m) ≡ z → crcWords s (drop (i + 4) m) ≡ z
-words-turn = turn4 (crcStep 16)
+words-turn = folded-four (crcStep 16)
 
 module _ (z : ℕ) (m : List ℕ) (byte : (k : ℕ) → getD m k 0 < 256) where
   pair-turn : (i r : ℕ) {s : ℕ} → i + 2 ≤ length m → s ≡ crcStep 16 r (pairAt m i) → crcBytes r (drop i m) ≡ z
       → crcBytes s (drop (i + 2) m) ≡ z
   pair-turn i r h e inv =
-      let t = turn (crcStep 8) z m i r (omega arith) refl inv in
-      rw (add-assoc i 1 1) at (turn (crcStep 8) z m (i + 1) (crcStep 8 r (getD m i 0)) (omega arith)
+      let t = folded-one (crcStep 8) z m i r (omega arith) refl inv in
+      rw (add-assoc i 1 1) at (folded-one (crcStep 8) z m (i + 1) (crcStep 8 r (getD m i 0)) (omega arith)
       (e ∙ word-bytes r (getD m i 0) (getD m (i + 1) 0) (byte (i + 1))) t)
 
   pub bytes-turn : (i r : ℕ) {s : ℕ} → i + 8 ≤ length m → s ≡ crcWords r (pairsAt m i) → crcBytes r (drop i m) ≡ z

@@ -102,7 +102,7 @@ module _ (p room : List ℕ) (place : ℕ) where
       record {
         within = omega arith;
         fits = omega (arith, data-words p);
-        filled = filling.start (givenData (unitsIn p)) room place (omega (arith, data-words p, given-words (unitsIn p)));
+        filled = filling.filled-none (givenData (unitsIn p)) room place (omega (arith, data-words p, given-words (unitsIn p)));
       }
 
 module _ (p room₀ : List ℕ) (place : ℕ) (room : List ℕ) (at to : ℕ) (k : Joined p room₀ place room at to) where
@@ -134,7 +134,7 @@ module _ (p room₀ : List ℕ) (place : ℕ) (room : List ℕ) (at to : ℕ) (k
       pub unit-joined : (tail : List ℕ) → tail ≡ checkRoom unit lent → Joined p room₀ place (putMid to (length room - to) room tail) end (to + r .length .0)
       unit-joined tail w =
           let f =
-          filling.turn (givenData (unitsIn p)) room₀ place (givenData (unitsIn (drop at p))) room to (k .filled) (given unit)
+          filling.filled-more (givenData (unitsIn p)) room₀ place (givenData (unitsIn (drop at p))) room to (k .filled) (given unit)
           (givenData (unitsIn (drop end p))) data-here (putMid to (length room - to) room tail)
           (put-lent (given unit) to room (omega (arith, room-left, words)) tail (w ∙ here .writes)) (to + r .length .0) (omega (arith, words)) in
           record {
@@ -147,6 +147,6 @@ module _ (p room₀ : List ℕ) (place : ℕ) (room : List ℕ) (at to : ℕ) (k
       → (place ≤ to) × (to - place ≡ joinReply p place (length room₀)) × (room ≡ joinRoom p place room₀)
   unfolding joinReply joinRoom givenData
   all-joined s h =
-      let d = filling.done (givenData (unitsIn p)) room₀ place (givenData (unitsIn (drop at p))) room to (k .filled) (ap givenData (units-end p at h)) in
+      let d = filling.filled-all (givenData (unitsIn p)) room₀ place (givenData (unitsIn (drop at p))) room to (k .filled) (ap givenData (units-end p at h)) in
       let f = le-leb (place + dataWords (unitsIn p)) (length room₀) (omega (arith, data-words p)) in
       (omega (arith, d .1), rw f (omega (arith, d .1)), rw f (d .0))

@@ -13,7 +13,7 @@ use Rattle.base.specs.Room.{put}
 use Rattle.base.specs.declared.Written.{Written}
 use Rattle.base.proofs.Refused.{spared, answer-no, answer-yes, settled-refusal}
 use Rattle.base.proofs.RoomLaws.{put-length}
-use Rattle.base.proofs.Pasting.{Pasted, turn}
+use Rattle.base.proofs.Pasting.{Pasted, pasted-more}
 use Rattle.program_input.specs.Input.{wordsOf, wordsCauses, wordsReply, wordsRoom}
 
 pub words-length : (bytes : List ℕ) → length (wordsOf bytes) ≡ length bytes / 2
@@ -33,12 +33,12 @@ word-at (b ∷ l ∷ bytes) (suc i) h =
     let o : 2 * suc i + 1 ≡ suc (suc (2 * i + 1)) = omega arith in
     word-at bytes i (omega arith) ∙ sym (ap₂ (λ (x y : ℕ). getD (b ∷ l ∷ bytes) x 0 * 256 + getD (b ∷ l ∷ bytes) y 0) e o)
 
--- one turn of the loop
+-- one pasted-more of the loop
 pub joined : (bytes room₀ room : List ℕ) (i w : ℕ) → Pasted (wordsOf bytes) room₀ 0 room i → i < length bytes / 2
     → w ≡ getD bytes (2 * i) 0 * 256 + getD bytes (2 * i + 1) 0 → Pasted (wordsOf bytes) room₀ 0 (set room i w) (i + 1)
 joined bytes room₀ room i w p h e =
     let l : length (wordsOf bytes) ≡ length bytes / 2 = words-length bytes in
-    rw (zero-add, word-at bytes i (omega arith), ← e) at (turn (wordsOf bytes) room₀ 0 room i p (omega arith))
+    rw (zero-add, word-at bytes i (omega arith), ← e) at (pasted-more (wordsOf bytes) room₀ 0 room i p (omega arith))
 
 module _ (bytes : List ℕ) (most : ℕ) (room : List ℕ) (r : Written) (e : r ≡ wordsReply (length bytes) most (length room)) where
   number : r .refusal ≡ verdict (wordsCauses (length bytes) most (length room))

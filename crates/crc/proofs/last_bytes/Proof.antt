@@ -5,7 +5,7 @@ use native.Mathlib.Omega.{arith}
 use lib.ListN.{length, getD, drop}
 use borrow.Author.Needs.{needs}
 use Rattle.base.specs.Xor.{_⊕_}
-use Rattle.base.proofs.Walk.{turn, last}
+use Rattle.base.proofs.Walk.{folded-one, folded-all}
 use Rattle.crc.specs.Crc.{crcBits, crcStep, crcBytes}
 use Rattle.crc.proofs.last_bytes.Statement.{statement}
 use Rattle.crc.proofs.last_bytes.Tie as tie
@@ -29,11 +29,11 @@ loop-again c =
     let m = l .before .before .args .message .now in
     let i = l .loop .i in
     let b : getD m i 0 * 256 % 65536 ≡ getD m i 0 * 256 = omega (arith, c .before .shared-slice-known2 .given i) in
-    turn (crcStep 8) _ m _ _ (c .before .before .loop-test .taken)
+    folded-one (crcStep 8) _ m _ _ (c .before .before .loop-test .taken)
     (c .eight .ensures ∙ ap (λ (n : ℕ). crcBits 8 (l .loop .r ⊕ n)) b) (l .loop .inv)
 
 returns : tie.Need-returns Inv-loop μ-loop
-returns c = last (crcStep 8) _ (c .before .before .before .args .message .now) _ (c .loop-test .left) (c .before .loop .inv)
+returns c = folded-all (crcStep 8) _ (c .before .before .before .args .message .now) _ (c .loop-test .left) (c .before .loop .inv)
 
 pub last-bytes-spec : {M : Type 1} → statement M
 last-bytes-spec =

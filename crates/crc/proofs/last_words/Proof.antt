@@ -3,7 +3,7 @@ use mathlib.Core.Path.{_≡_, refl, sym, _∙_}
 use Prim.Native.Nat.{_-_}
 use lib.ListN.{length, drop}
 use borrow.Author.Needs.{needs}
-use Rattle.base.proofs.Walk.{turn, last}
+use Rattle.base.proofs.Walk.{folded-one, folded-all}
 use Rattle.crc.specs.Crc.{crcStep, crcWords}
 use Rattle.crc_division.proofs.Linear.{word-step}
 use Rattle.crc.proofs.last_words.Statement.{statement}
@@ -21,11 +21,11 @@ loop-holds c = refl
 loop-again : tie.Need-loop-again Inv-loop μ-loop
 loop-again c =
     let l = c .before .before .before in
-    turn (crcStep 16) _ (l .before .before .args .message .now) _ _ (c .before .before .loop-test .taken)
+    folded-one (crcStep 16) _ (l .before .before .args .message .now) _ _ (c .before .before .loop-test .taken)
     (c .sixteen .ensures ∙ sym (word-step _ _)) (l .loop .inv)
 
 returns : tie.Need-returns Inv-loop μ-loop
-returns c = last (crcStep 16) _ (c .before .before .before .args .message .now) _ (c .loop-test .left) (c .before .loop .inv)
+returns c = folded-all (crcStep 16) _ (c .before .before .before .args .message .now) _ (c .loop-test .left) (c .before .loop .inv)
 
 pub last-words-spec : {M : Type 1} → statement M
 last-words-spec =

@@ -101,7 +101,7 @@ none-given ws room n h d =
     record {
       within = omega arith;
       fits = omega arith;
-      filled = filling.start (givenData (unitsAlong n ws)) room 0 (omega (arith, given-words (unitsAlong n ws)));
+      filled = filling.filled-none (givenData (unitsAlong n ws)) room 0 (omega (arith, given-words (unitsAlong n ws)));
     }
 
 module _ (ws : List ℕ) (all : List (List ℕ)) (room₀ room : List ℕ) (left at place : ℕ) (k : Given ws all room₀ room left at place) where
@@ -131,7 +131,7 @@ module _ (ws : List ℕ) (all : List (List ℕ)) (room₀ room : List ℕ) (left
       pub chunk-given : (room₁ : List ℕ) → room₁ ≡ joinRoom payload place room → Given ws all room₀ room₁ (left - 1) to (place + n)
       chunk-given room₁ w =
           let f =
-          filling.turn (givenData all) room₀ 0 (givenData (ahead ws left at)) room place (k .filled) (givenData (unitsIn payload)) (givenData rest) data-here
+          filling.filled-more (givenData all) room₀ 0 (givenData (ahead ws left at)) room place (k .filled) (givenData (unitsIn payload)) (givenData rest) data-here
           room₁ (w ∙ enough .1) (place + n) (ap (λ (i : ℕ). place + i) (q ∙ enough .0)) in
           record {
             within = given-step .after;
@@ -143,4 +143,4 @@ module _ (ws : List ℕ) (all : List (List ℕ)) (room₀ room : List ℕ) (left
   unfolding givenData unitsAlong
   all-given h =
       let z : left ≡ 0 = omega arith in
-      filling.done (givenData all) room₀ 0 (givenData (ahead ws left at)) room place (k .filled) (ap (λ (n : ℕ). givenData (ahead ws n at)) z) .0
+      filling.filled-all (givenData all) room₀ 0 (givenData (ahead ws left at)) room place (k .filled) (ap (λ (n : ℕ). givenData (ahead ws n at)) z) .0

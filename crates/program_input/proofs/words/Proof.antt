@@ -1,9 +1,9 @@
--- `program_input::words` meets its contract: the loop of `Pasting`, two bytes a turn.
+-- `program_input::words` meets its contract: the loop of `Pasting`, two bytes a pasted-more.
 use Prim.Native.Nat.{_-_, _/_}
 use native.Mathlib.Omega.{arith}
 use lib.ListN.{length}
 use borrow.Author.Needs.{needs}
-use Rattle.base.proofs.Pasting.{Pasted, start, done}
+use Rattle.base.proofs.Pasting.{Pasted, pasted-none, pasted-all}
 use Rattle.program_input.specs.Input.{wordsOf}
 use Rattle.program_input.proofs.Joining.{words-length, joined, untouched, fits, written}
 use Rattle.program_input.proofs.words.Statement.{statement}
@@ -25,7 +25,7 @@ loop-holds : tie.Need-loop-holds Inv-loop μ-loop
 loop-holds c =
     let p = c .before .before in
     let a = p .before .before .before .args in
-    start _ _ _ (fits (a .bytes .now) (a .most .0) (a .room .now) _ (p .plan .ensures) (c .if1 .left))
+    pasted-none _ _ _ (fits (a .bytes .now) (a .most .0) (a .room .now) _ (p .plan .ensures) (c .if1 .left))
 
 slice-write-room : tie.Need-slice-write-room Inv-loop μ-loop
 slice-write-room c =
@@ -47,7 +47,7 @@ returns-2 c =
     let a = p .before .before .before .args in (
       p .plan .ensures,
       written (a .bytes .now) (a .most .0) (a .room .now) _ (p .plan .ensures) (e .if1 .left) _
-          (done _ _ _ _ _ (c .before .loop .inv) (omega (arith, words-length (a .bytes .now), c .loop-test .left))),
+          (pasted-all _ _ _ _ _ (c .before .loop .inv) (omega (arith, words-length (a .bytes .now), c .loop-test .left))),
     )
 
 pub words-spec : {M : Type 1} → statement M
