@@ -10,15 +10,6 @@ use Rattle.base.specs.Refusal.{Causes, verdict, wrongArgument, wrongLength}
 use Rattle.base.proofs.Refused.{Spared, spared}
 use Rattle.command.specs.Asking.{mostBytes, firstCauses}
 
-pub verdict-stop : (cs ds : Causes) → (verdict cs ≡ 0 → ⊥) → verdict (cs ++ ds) ≡ verdict cs
-verdict-stop [] ds h = absurd (h refl)
-verdict-stop ((n, true) ∷ cs) ds h = refl
-verdict-stop ((n, false) ∷ cs) ds h = verdict-stop cs ds h
-
-pub verdict-go : (cs ds : Causes) → Spared cs → verdict (cs ++ ds) ≡ verdict ds
-verdict-go [] ds s = refl
-verdict-go ((n, b) ∷ cs) ds s = ap (λ (x : Bool). cond x n (verdict (cs ++ ds))) (s .0) ∙ verdict-go cs ds (s .1)
-
 pub verdict-front : (cs ds : Causes) → verdict (cs ++ ds) ≡ 0 → verdict cs ≡ 0
 verdict-front [] ds e = refl
 verdict-front ((n, true) ∷ cs) ds e = e

@@ -8,14 +8,14 @@ use lib.Dec.{eqb}
 use lib.ListN.{length, getD, take, drop}
 use borrow.Author.Tests.{eqb-true}
 use Rattle.base.specs.Refusal.{Causes, verdict, answer, wrongHeader, wrongCrc}
-use Rattle.base.proofs.Refused.{spared, answer-no, answer-yes}
+use Rattle.base.proofs.Refused.{verdict-kept, verdict-further, answer-no, answer-yes}
 use Rattle.crc.specs.Crc.{crcStart, crcBytes}
 use Rattle.command_catalogue.proofs.Judged.{cause-by-parts}
 use Rattle.command.specs.declared.Fields.{Fields}
 use Rattle.command_reading.specs.declared.Command.{Command}
 use Rattle.command.specs.Layout.{packetId, word, numberAt, fieldsIn}
 use Rattle.command.specs.Asking.{askedWrong, firstCauses, lastCauses}
-use Rattle.command.proofs.Verdicts.{verdict-stop, verdict-go, verdict-front, total-within}
+use Rattle.command.proofs.Verdicts.{verdict-front, total-within}
 use Rattle.command_reading.specs.Reading.{command, refused, headerWrong, crcWrong, packetCauses, readCauses, given, readReply, furtherReply}
 
 -- ---- what stands in a packet
@@ -67,7 +67,7 @@ module _ (c m : ℕ) (bs : List ℕ) where
     unfolding readReply
     refused-at-first h f is =
         is ∙ refused-alike v f (fieldsIn bs) 0 (length bs - 14) h
-        ∙ ap (λ (x : ℕ). given x (fieldsIn bs) (length bs - 14)) (e ∙ sym (verdict-stop early late (λ z. h (e ∙ z))))
+        ∙ ap (λ (x : ℕ). given x (fieldsIn bs) (length bs - 14)) (e ∙ sym (verdict-kept early late (λ z. h (e ∙ z))))
 
     -- looked at whole
     pub read-whole : v ≡ 0 → {w : ℕ} {f : Fields} {r : Command} → f ≡ fieldsIn bs → w ≡ verdict (packetCauses c m f bs) → r ≡ given w f (length bs - 14)
@@ -76,7 +76,7 @@ module _ (c m : ℕ) (bs : List ℕ) where
     read-whole z {w} {f} ef ew is =
         is ∙ ap (λ (x : Fields). given w x (length bs - 14)) ef
         ∙ ap (λ (x : ℕ). given x (fieldsIn bs) (length bs - 14))
-        (ew ∙ ap (λ (x : Fields). verdict (packetCauses c m x bs)) ef ∙ sym (verdict-go early late (spared early refl (sym e ∙ z))))
+        (ew ∙ ap (λ (x : Fields). verdict (packetCauses c m x bs)) ef ∙ sym (verdict-further early late refl (sym e ∙ z)))
 
   -- ---- what the reply's number says, for the further bytes
 

@@ -10,7 +10,8 @@ use borrow.Author.Tests.{ltb-true, ltb-false, eqb-true, not-false}
 use Rattle.base.specs.Refusal.{Causes, verdict, answer, noRoom}
 use Rattle.base.specs.Number.{highByte, lowByte}
 use Rattle.base.specs.Room.{put}
-use Rattle.base.proofs.Refused.{Spared, spared, answer-no, answer-yes}
+use Rattle.base.proofs.Booleans.{or-false}
+use Rattle.base.proofs.Refused.{Spared, spared, verdict-kept, verdict-further, answer-no, answer-yes}
 use Rattle.base.proofs.RoomLaws.{put-put}
 use Rattle.crc.specs.Crc.{crcStart, crcBytes}
 use Rattle.crc.proofs.Laws.{crc-append}
@@ -18,7 +19,7 @@ use Rattle.command.specs.declared.Fields.{Fields}
 use Rattle.command_writing.specs.declared.Sent.{Sent}
 use Rattle.command.specs.Layout.{widths, headOf, laid, word, bytesOf, commandBytes}
 use Rattle.command.specs.Asking.{askedWrong, firstCauses, lastCauses}
-use Rattle.command.proofs.Verdicts.{verdict-stop, verdict-go, verdict-front, total-within}
+use Rattle.command.proofs.Verdicts.{verdict-front, total-within}
 use Rattle.command_writing.specs.Writing.{countWrong, writeCauses, sent, refused, settled, writeReply, writeRoom}
 
 -- a refused reply is the same whatever would have been written
@@ -33,11 +34,6 @@ settled-refusal v n = by (eqb v 0) refl
     by : (b : Bool) → eqb v 0 ≡ b → cond b (sent 0 n) (refused v) .refusal ≡ v
     by true e = sym (eqb-true v 0 e)
     by false e = refl
-
-or-right : (a b : Bool) → (a || b) ≡ false → b ≡ false
-or-right true true e = e
-or-right true false e = refl
-or-right false b e = e
 
 -- ---- the reply
 
@@ -62,20 +58,20 @@ module _ (c m : ℕ) (f : Fields) (xs : List ℕ) (room : ℕ) where
     -- refused by the arguments or the total
     pub refused-at-first : (v ≡ 0 → ⊥) → {r : Sent} → r ≡ settled v 0 → r ≡ writeReply c m f xs room
     refused-at-first h is =
-        let s : verdict (early ++ late) ≡ v = verdict-stop early late (λ z. h (sym first-verdict ∙ z)) ∙ first-verdict in
-        reply-by-verdict (verdict-stop (early ++ late) last (λ z. h (sym s ∙ z)) ∙ s) (is ∙ refused-alike v 0 (14 + length xs) h)
+        let s : verdict (early ++ late) ≡ v = verdict-kept early late (λ z. h (sym first-verdict ∙ z)) ∙ first-verdict in
+        reply-by-verdict (verdict-kept (early ++ late) last (λ z. h (sym s ∙ z)) ∙ s) (is ∙ refused-alike v 0 (14 + length xs) h)
 
     module _ (z : v ≡ 0) {w : ℕ} (ew : w ≡ verdict late) where
       asked : verdict (early ++ late) ≡ w
-      asked = verdict-go early late (spared early refl (first-verdict ∙ z)) ∙ sym ew
+      asked = verdict-further early late refl (first-verdict ∙ z) ∙ sym ew
 
       -- refused by the fields or the further bytes
       pub refused-by-fields : (w ≡ 0 → ⊥) → {r : Sent} → r ≡ settled w 0 → r ≡ writeReply c m f xs room
-      refused-by-fields h is = reply-by-verdict (verdict-stop (early ++ late) last (λ y. h (sym asked ∙ y)) ∙ asked) (is ∙ refused-alike w 0 (14 + length xs) h)
+      refused-by-fields h is = reply-by-verdict (verdict-kept (early ++ late) last (λ y. h (sym asked ∙ y)) ∙ asked) (is ∙ refused-alike w 0 (14 + length xs) h)
 
       -- the room is left to look at
       pub settled-by-room : w ≡ 0 → {u : ℕ} {r : Sent} → u ≡ cond (ltb room (14 + length xs)) noRoom 0 → r ≡ settled u (14 + length xs) → r ≡ writeReply c m f xs room
-      settled-by-room y eu is = reply-by-verdict (verdict-go (early ++ late) last (spared (early ++ late) refl (asked ∙ y)) ∙ sym eu) is
+      settled-by-room y eu is = reply-by-verdict (verdict-further (early ++ late) last refl (asked ∙ y) ∙ sym eu) is
 
 -- ---- the room
 
@@ -118,7 +114,7 @@ module _ (c m : ℕ) (f : Fields) (xs room : List ℕ) {r : Sent} (e : r ≡ wri
 
     pub command-fits : (f .sequence < 16384) × (14 + length xs ≤ 227) × (14 + length xs ≤ length room)
     command-fits = (
-      ltb-true _ _ (not-false _ (or-right (askedWrong c m) _ (none .0))),
+      ltb-true _ _ (not-false _ (or-false (askedWrong c m) _ (none .0) .1)),
       total-within (askedWrong c m || countWrong f) c (14 + length xs)
           (verdict-front (early c m f xs (length room)) (late c m f xs (length room) ++ last c m f xs (length room)) (sym reply-number ∙ z)) .1,
       ltb-false _ _ (none .1 .1 .1 .1 .1 .1 .0),

@@ -1,21 +1,20 @@
 -- The judge's reply, from what is found of the unit; and from that the checker's.
 use mathlib.Core.Path.{_≡_, refl, sym, ap, _∙_}
 use mathlib.Core.Bool.{Bool, true, false, cond, not, _&&_}
-use mathlib.Core.List.{List}
+use mathlib.Core.List.{List, [], _∷_}
 use Prim.Native.Nat.{ℕ, _-_, _<_, _≤_}
 use native.Mathlib.Omega.{arith}
 use lib.Dec.{leb, ltb, eqb}
 use lib.Count.{ones, leadingZeros}
 use lib.ListN.{length, drop}
 use borrow.Author.Tests.{leb-true, le-ltb, lt-ltb, eqb-true}
-use mathlib.Core.Logic.{_⊎_, inl, inr, ⊎-elim}
 use Rattle.base.specs.Xor.{_⊕_}
-use Rattle.base.proofs.Refused.{answer-no, answer-yes}
-use Rattle.base.specs.Refusal.{answer, wrongLength, wrongParity, noRoom}
+use Rattle.base.proofs.Refused.{verdict-kept, verdict-further, answer-no, answer-yes}
+use Rattle.base.specs.Refusal.{Causes, answer, wrongLength, wrongParity, noRoom}
 use Rattle.parity_rows.specs.declared.Sums.{Sums}
 use Rattle.parity_rows.specs.Parity.{parities, statedParity}
 use Rattle.parity.specs.declared.Judged.{Judged}
-use Rattle.parity.specs.Unit.{Finding, sound, parityBit, dataBit, neither, fiveCases, finding, isNeither, named, refused, notUnit, judgeVerdict, judgeReply, checkVerdict, checkReply}
+use Rattle.parity.specs.Unit.{Finding, sound, parityBit, dataBit, neither, fiveCases, finding, isNeither, named, refused, notUnit, judgeCauses, judgeVerdict, judgeReply, checkVerdict, checkReply}
 use Rattle.parity.specs.Answered.{answerOf}
 use Rattle.parity.proofs.Cases.{cases-find}
 
@@ -80,53 +79,44 @@ pub checked-refusal : (u : List ℕ) (m : ℕ) → checkReply u m .refusal ≡ c
 unfolding checkReply
 checked-refusal u m = number-in (checkVerdict u m) (finding u) (length u - 8)
 
--- ---- the checker's reply, from the judge's
+-- ---- the checker's reply, from the judge's: the room is looked at last
 
--- the room is looked at last
-last-cause : (a b t : Bool) → (cond a wrongLength (cond b wrongParity 0) ≡ 0 → ⊥) ⊎ (t ≡ false)
-    → cond a wrongLength (cond b wrongParity 0) ≡ cond a wrongLength (cond b wrongParity (cond t noRoom 0))
-last-cause true b t h = refl
-last-cause false true t h = refl
-last-cause false false false h = refl
-last-cause false false true (inl h) = absurd (h refl)
-last-cause false false true (inr e) = let z : _≡_ {A = ℕ} 0 1 = cc in absurd (omega arith)
+module _ (u : List ℕ) (m : ℕ) (r : Judged) (e : r ≡ judgeReply u) where
+  abbrev roomCause : Causes
+  roomCause = (noRoom, ltb m (length u - 8)) ∷ []
 
-room-cause : (a b t : Bool) → cond a wrongLength (cond b wrongParity 0) ≡ 0 → t ≡ true → cond a wrongLength (cond b wrongParity (cond t noRoom 0)) ≡ noRoom
-room-cause true b t h e = absurd (omega (arith, h))
-room-cause false true t h e = absurd (omega (arith, h))
-room-cause false false true h e = refl
-room-cause false false false h e = let z : _≡_ {A = ℕ} 0 1 = cc in absurd (omega arith)
+  abbrev replied : ℕ → Judged
+  replied v = answer v refused (named (finding u) (length u - 8))
 
-module _ (u : List ℕ) (m : ℕ) where
-  judged-checked : (judgeVerdict u ≡ 0 → ⊥) ⊎ (length u - 8 ≤ m) → judgeReply u ≡ checkReply u m
+  reply-number : r .refusal ≡ judgeVerdict u
+  reply-number = ap (λ (s : Judged). s .refusal) e ∙ judged-refusal u
+
+  pub refused-as-judged : (r .refusal ≡ 0 → ⊥) → r ≡ checkReply u m
   unfolding judgeReply checkReply judgeVerdict checkVerdict
-  judged-checked h =
-      ap (λ (v : ℕ). answer v refused (named (finding u) (length u - 8)))
-      (last-cause (notUnit (length u)) (isNeither (finding u)) (ltb m (length u - 8)) (⊎-elim inl (λ x. inr (le-ltb m (length u - 8) x)) h))
+  refused-as-judged h = e ∙ ap replied (sym (verdict-kept (judgeCauses u) roomCause (λ z. h (reply-number ∙ z))))
 
-  judged-length : judgeVerdict u ≡ 0 → judgeReply u .length .0 ≡ length u - 8
-  unfolding judgeReply
-  judged-length z = ap (λ (s : Judged). s .length .0) (answer-yes (judgeVerdict u) refused (named (finding u) (length u - 8)) z) ∙ named-length (finding u) (length u - 8)
+  module _ (z : r .refusal ≡ 0) where
+    judge-accepts : judgeVerdict u ≡ 0
+    judge-accepts = sym reply-number ∙ z
 
-  refused-room : judgeVerdict u ≡ 0 → m < length u - 8 → refused noRoom ≡ checkReply u m
-  unfolding checkReply judgeVerdict checkVerdict
-  refused-room z h =
-      let x = named (finding u) (length u - 8) in
-      let v = room-cause (notUnit (length u)) (isNeither (finding u)) (ltb m (length u - 8)) z (lt-ltb m (length u - 8) h) in
-      sym (ap (λ (n : ℕ). answer n refused x) v ∙ answer-no noRoom refused x (λ y. omega (arith, y)))
+    room-decides : checkVerdict u m ≡ cond (ltb m (length u - 8)) noRoom 0
+    unfolding judgeVerdict checkVerdict
+    room-decides = verdict-further (judgeCauses u) roomCause refl judge-accepts
 
-  module _ (r : Judged) (e : r ≡ judgeReply u) where
-    reply-number : r .refusal ≡ judgeVerdict u
-    reply-number = ap (λ (s : Judged). s .refusal) e ∙ judged-refusal u
+    reply-length : r .length .0 ≡ length u - 8
+    unfolding judgeReply
+    reply-length =
+        ap (λ (s : Judged). s .length .0) (e ∙ answer-yes (judgeVerdict u) refused (named (finding u) (length u - 8)) judge-accepts)
+        ∙ named-length (finding u) (length u - 8)
 
-    reply-length : r .refusal ≡ 0 → r .length .0 ≡ length u - 8
-    reply-length z = ap (λ (s : Judged). s .length .0) e ∙ judged-length (sym reply-number ∙ z)
+    pub refused-for-room : m < r .length .0 → refused noRoom ≡ checkReply u m
+    unfolding checkReply
+    refused-for-room h =
+        let few : ltb m (length u - 8) ≡ true = lt-ltb m (length u - 8) (omega (arith, reply-length)) in
+        sym (ap replied (room-decides ∙ ap (λ (b : Bool). cond b noRoom 0) few) ∙ answer-no noRoom refused _ (λ y. omega (arith, y)))
 
-    pub refused-as-judged : (r .refusal ≡ 0 → ⊥) → r ≡ checkReply u m
-    refused-as-judged h = e ∙ judged-checked (inl (λ z. h (reply-number ∙ z)))
-
-    pub refused-for-room : r .refusal ≡ 0 → m < r .length .0 → refused noRoom ≡ checkReply u m
-    refused-for-room z h = refused-room (sym reply-number ∙ z) (omega (arith, reply-length z))
-
-    pub accepted-as-judged : r .refusal ≡ 0 → r .length .0 ≤ m → r ≡ checkReply u m
-    accepted-as-judged z h = e ∙ judged-checked (inr (omega (arith, reply-length z)))
+    pub accepted-as-judged : r .length .0 ≤ m → r ≡ checkReply u m
+    unfolding judgeReply checkReply
+    accepted-as-judged h =
+        let enough : ltb m (length u - 8) ≡ false = le-ltb m (length u - 8) (omega (arith, reply-length)) in
+        e ∙ ap replied (judge-accepts ∙ sym (room-decides ∙ ap (λ (b : Bool). cond b noRoom 0) enough))
