@@ -1,4 +1,5 @@
 // Going through a recording, a frame or a stray at a time.
+use crate::Frame;
 use crate::Piece;
 use crate::shape;
 use base::Words;
@@ -18,8 +19,16 @@ fn frame_there(words: &[u16], sync: u16, at: usize) -> Piece
 {
     let from = &words[at..];
     let reach = shape::measure(from, sync);
-    let frame = shape::describe(from, sync, reach);
-    Piece::Whole(Words(at), frame, Words(at + reach.end))
+    let end = reach.end;
+    let camera = header::camera_of(from[1]);
+    let frame = Frame {
+        refusal: 0,
+        camera,
+        chunks: reach.chunks,
+        complete: shape::closes(&from[end..], sync, camera),
+        length: Words(reach.length),
+    };
+    Piece::Whole(Words(at), frame, Words(at + end))
 }
 
 // The next frame or stray from a place on, where no frame is in hand: health chunks are passed. Going on from the place that it gives, a

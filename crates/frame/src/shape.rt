@@ -1,5 +1,4 @@
 // The shape of a frame, walked from its first word on: every place here counts from there.
-use crate::Frame;
 use base::Words;
 use base::room;
 use chunk::Check;
@@ -9,7 +8,6 @@ use health::packet;
 ghost use mathlib.Core.Path.{_≡_};
 ghost use mathlib.Core.Bool.{true};
 ghost use Rattle.chunk.specs.Header.{confirmed};
-ghost use Rattle.frame.specs.Described.{described};
 ghost use Rattle.frame.specs.Walk.{startsFrame, joinsFrame, closesFrame, reachOf};
 
 // How far a frame reaches: its chunks, its words and its data words.
@@ -60,7 +58,7 @@ pub fn measure(words: &[u16], sync: u16) -> Reach
 }
 
 // Whether a health chunk stands at the front of these words whose first packet is sound and of the camera's type: the type is looked at first.
-fn closes(words: &[u16], sync: u16, camera: u16) -> bool
+pub fn closes(words: &[u16], sync: u16, camera: u16) -> bool
     ensures { λ r. ⌜ r ≡ closesFrame sync (now (words .entry)) camera ⌝ }
 {
     let health = header::kind_of(room::word_at(words, Words(1))) == 1;
@@ -69,20 +67,4 @@ fn closes(words: &[u16], sync: u16, camera: u16) -> bool
         return false;
     }
     confirmed(words, sync) & packet::sound_at(words, Words(HEADER))
-}
-
-// The frame at the front of these words, which reaches so far.
-pub fn describe(words: &[u16], sync: u16, reach: Reach) -> Frame
-    requires { ⌜ (startsFrame sync (now words) ≡ true) × (reach ≡ reachOf sync (now words)) ⌝ }
-    ensures { λ r. ⌜ r ≡ described sync (now (words .entry)) ⌝ }
-{
-    let camera = header::camera_of(words[1]);
-    let end = reach.end;
-    Frame {
-        refusal: 0,
-        camera,
-        chunks: reach.chunks,
-        complete: closes(&words[end..], sync, camera),
-        length: Words(reach.length),
-    }
 }

@@ -1,9 +1,10 @@
--- `frame::pieces::frame_there` meets its contract: by its callees', over the words from the frame's first on.
-use mathlib.Core.Path.{_≡_, sym, ap, ap₂, subst, _∙_}
+-- `frame::pieces::frame_there` meets its contract: the frame is measured over the words from its first on, and whether it is complete is a question about
+-- the place where it ends.
+use mathlib.Core.Path.{_≡_, ap, ap₂, _∙_}
 use mathlib.Core.Bool.{true}
+use mathlib.Core.List.{List}
 use Prim.Native.Nat.{ℕ, _+_, _-_, _≤_, _<_}
 use native.Mathlib.Omega.{arith}
-use mathlib.Core.List.{List}
 use lib.ListN.{length, take, drop, length-drop}
 use Rattle.base.proofs.RoomLaws.{to-end}
 use Rattle.frame.specs.declared.Frame.{Frame}
@@ -11,8 +12,8 @@ use Rattle.frame.specs.declared.Piece.{Piece}
 use Rattle.frame.specs.declared.shape.Reach.{Reach}
 use Rattle.frame.specs.Shape.{frameWords}
 use Rattle.frame.specs.Described.{described}
-use Rattle.frame.specs.Walk.{startsFrame, reachOf}
-use Rattle.frame.proofs.Walking.{longer-than-header, frame-ends-inside}
+use Rattle.frame.specs.Walk.{startsFrame}
+use Rattle.frame.proofs.Walking.{longer-than-header, frame-ends-inside, described-by-reach}
 use borrow.Author.Needs.{needs}
 use Rattle.frame.proofs.pieces.frame_there.Statement.{statement}
 use Rattle.frame.proofs.pieces.frame_there.Tie as tie
@@ -22,14 +23,17 @@ module _ (s : tie.Start) where
   ws = s .args .words .now
 
   -- the words from the frame's first on, as the code takes them
-  part : drop (s .args .at) ws ≡ take (length ws - s .args .at) (drop (s .args .at) ws)
-  part = sym (to-end (s .args .at) ws)
+  abbrev part : List ℕ
+  part = take (length ws - s .args .at) (drop (s .args .at) ws)
+
+  starts-there : startsFrame (s .args .sync) part ≡ true
+  starts-there = ap (startsFrame (s .args .sync)) (to-end (s .args .at) ws) ∙ s .pre
+
+  part-length : length part ≡ length ws - s .args .at
+  part-length = ap length (to-end (s .args .at) ws) ∙ length-drop (s .args .at) ws
 
   within : s .args .at + 2 < length ws
-  within = omega (arith, longer-than-header (s .args .sync) (drop (s .args .at) ws) (s .pre), length-drop (s .args .at) ws)
-
-  reaches : s .args .at + frameWords (s .args .sync) (drop (s .args .at) ws) ≤ length ws
-  reaches = omega (arith, within, frame-ends-inside (s .args .sync) (drop (s .args .at) ws) (s .pre), length-drop (s .args .at) ws)
+  within = omega (arith, longer-than-header (s .args .sync) part starts-there, part-length)
 
 mul-from : tie.Need-mul-from
 mul-from c = omega (arith, within (c .before))
@@ -41,28 +45,46 @@ part-from-start : tie.Need-part-from-start
 part-from-start c = let w = within (c .before) in search needs
 
 measure-requires : tie.Need-measure-requires
-measure-requires c κs = subst (λ (l : List ℕ). startsFrame (c .before .before .args .sync) l ≡ true) (part (c .before .before)) (c .before .before .pre)
+measure-requires c κs = starts-there (c .before .before)
 
-describe-requires : tie.Need-describe-requires
-describe-requires c κs = (
-  subst (λ (l : List ℕ). startsFrame (c .before .before .before .args .sync) l ≡ true) (part (c .before .before .before)) (c .before .before .before .pre),
-  c .measure .ensures,
-)
+shared-slice-read-camera-of : tie.Need-shared-slice-read-camera-of
+shared-slice-read-camera-of c =
+    let s = c .before .before .before .before in
+    omega (arith, longer-than-header (s .args .sync) (part s) (starts-there s))
 
--- how far the frame reaches
-reach : (c : tie.After-measure) → let s = c .before .before .before in c .measure .result .end ≡ frameWords (s .args .sync) (drop (s .args .at) (ws s))
-reach c =
-    let s = c .before .before .before in
-    ap (λ (r : Reach). r .end) (c .measure .ensures ∙ ap (reachOf (s .args .sync)) (sym (part s)))
+-- where the frame ends
+module _ (c : tie.After-measure) where
+  abbrev s : tie.Start
+  s = c .before .before .before
 
-add-t7 : tie.Need-add-t7
-add-t7 c = omega (arith, reach (c .before .before), reaches (c .before .before .before .before .before))
+  end-there : c .measure .result .end ≡ frameWords (s .args .sync) (part s)
+  end-there = ap (λ (r : Reach). r .end) (c .measure .ensures)
+
+  end-within : c .measure .result .end ≤ length (part s)
+  end-within = omega (arith, end-there, frame-ends-inside (s .args .sync) (part s) (starts-there s))
+
+mul-closes : tie.Need-mul-closes
+mul-closes c = omega (arith, end-within (c .before .before), part-length (s (c .before .before)))
+
+sub-closes : tie.Need-sub-closes
+sub-closes c = end-within (c .before .before)
+
+part-closes-start : tie.Need-part-closes-start
+part-closes-start c = let w = end-within (c .before .before) in search needs
+
+add-t9 : tie.Need-add-t9
+add-t9 c =
+    let m = c .before .before .before .before in
+    omega (arith, end-within m, part-length (s m), within (s m))
 
 returns : tie.Need-returns
 returns c =
-    let s = c .before .before .before .before .before in
-    ap₂ (λ (f : Frame) (n : ℕ). Piece.Whole (record { 0 = s .args .at }) f (record { 0 = s .args .at + n }))
-    (c .before .describe .ensures ∙ ap (described (s .args .sync)) (sym (part s))) (reach (c .before .before))
+    let m = c .before .before .before .before in
+    let a = s m .args in
+    ap₂ (λ (f : Frame) (n : ℕ). Piece.Whole (record { 0 = a .at }) f (record { 0 = a .at + n }))
+    (described-by-reach (a .sync) (part (s m)) (starts-there (s m)) _ _ _ (m .measure .ensures) (c .before .before .camera-of .ensures) (c .closes .ensures)
+    ∙ ap (described (a .sync)) (to-end (a .at) (ws (s m))))
+    (end-there m ∙ ap (frameWords (a .sync)) (to-end (a .at) (ws (s m))))
 
 pub frame-there-spec : {M : Type 1} → statement M
 frame-there-spec =
@@ -73,6 +95,12 @@ frame-there-spec =
     part-from-start
     (λ c. search needs)
     measure-requires
-    describe-requires
-    add-t7
+    shared-slice-read-camera-of
+    (λ c κs. search needs)
+    mul-closes
+    sub-closes
+    part-closes-start
+    (λ c. search needs)
+    (λ c κs. search needs)
+    add-t9
     returns)
