@@ -1,4 +1,4 @@
--- A verdict in two steps: the first causes alone, and the others only where none of the first holds.
+-- What a verdict of 0 says of the causes that stand first, and so of the total.
 use mathlib.Core.Path.{_≡_, refl, ap, _∙_}
 use mathlib.Core.Bool.{Bool, true, false, cond, not, _&&_, and-eq-true-iff}
 use mathlib.Core.List.{[], _∷_, _++_}
@@ -7,7 +7,7 @@ use native.Mathlib.Omega.{arith}
 use lib.Dec.{leb, eqb}
 use borrow.Author.Tests.{leb-true, not-false}
 use Rattle.base.specs.Refusal.{Causes, verdict, wrongArgument, wrongLength}
-use Rattle.base.proofs.Refused.{Spared, spared}
+use Rattle.base.proofs.Refused.{spared}
 use Rattle.command.specs.Asking.{mostBytes, firstCauses}
 
 pub verdict-front : (cs ds : Causes) → verdict (cs ++ ds) ≡ 0 → verdict cs ≡ 0

@@ -1,6 +1,6 @@
 -- The five cases: each by its test after those before it; what they find of the rows and columns that differ is what is found of the unit; and a data bit
 -- that is found is one of the data.
-use mathlib.Core.Path.{_≡_, refl, sym, ap, ap₂, _∙_}
+use mathlib.Core.Path.{_≡_, refl, sym, ap₂, _∙_}
 use mathlib.Core.Bool.{Bool, true, false, cond, _&&_}
 use mathlib.Core.List.{List}
 use Prim.Native.Nat.{ℕ, _+_, _-_, _*_, _/_, _%_, _<_}
