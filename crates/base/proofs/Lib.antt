@@ -1,9 +1,6 @@
 pub mod Booleans
 pub mod Refused
-pub mod RoomLaws
-pub mod Pasting
 pub mod XorLaws
 pub mod Linear
 pub mod Every
 pub mod Walk
-pub mod Filling

@@ -2,7 +2,6 @@
 pub mod limit;
 pub mod number;
 pub mod refusal;
-pub mod room;
 
 // A number of 16-bit words, or a place among them: camera sizes and positions.
 pub struct Words(pub usize);

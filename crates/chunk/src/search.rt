@@ -19,7 +19,7 @@ pub fn next(words: &[u16], sync: u16, from: Words) -> Found
         let here = header::check(words, sync, Words(at));
         if let Check::Confirmed = here {
             let second = at + 1;
-            let word = base::room::word_at(words, Words(second));
+            let word = base_room::word_at(words, Words(second));
             let end = at + header::HEADER + header::size_of(word).0;
             break Found::Chunk(
                 Entry {

@@ -11,7 +11,7 @@ use borrow.Author.Tests.{eqb-true, leb-true, not-false}
 use Rattle.base.proofs.Booleans.{and-left, and-right, or-cases}
 use Rattle.base.specs.declared.Written.{Written}
 use Rattle.base.specs.Refusal.{verdict}
-use Rattle.base.specs.Room.{put}
+use Rattle.base_room.specs.Room.{put}
 use Rattle.base.proofs.Refused.{spared, answer-no, answer-yes, settled-refusal}
 use Rattle.chunk.specs.Header.{legalSize}
 use Rattle.chunk.proofs.Headers.{legal-size}

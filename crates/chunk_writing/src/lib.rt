@@ -2,7 +2,6 @@
 use base::Words;
 use base::Written;
 use base::refusal;
-use base::room;
 use chunk::header;
 ghost use mathlib.Core.Path.{_≡_};
 ghost use Prim.Native.Nat.{_≤_};
@@ -50,6 +49,6 @@ pub fn write_chunk(sync: u16, kind: u16, camera: u16, payload: &[u16], room: &mu
         return reply;
     }
     let head = [sync, header_word(kind, camera, payload.len() as u16)];
-    room::put_joined(&head, payload, room);
+    base_room::put_joined(&head, payload, room);
     reply
 }

@@ -20,7 +20,7 @@ use Rattle.command.proofs.Verdicts.{verdict-front}
 use Rattle.command_reading.specs.Reading.{headerWrong, crcWrong, readCauses, command, given, readReply, furtherReply}
 use Rattle.command_writing.specs.Writing.{countWrong, askCauses, writeReply, writeRoom}
 use Rattle.command_writing.proofs.Replies.{reply-number, command-fits, stored}
-use Rattle.base.proofs.RoomLaws.{put-fits}
+use Rattle.base_room.proofs.RoomLaws.{put-fits}
 use Rattle.command_laws.specs.Agree.{AcceptedAlike, JudgedAlike, GivenBack}
 use Rattle.command_laws.proofs.Laid.{word-of-bytes}
 

@@ -9,10 +9,10 @@ use lib.ListN.{length, length-append}
 use borrow.Author.Tests.{ltb-true, ltb-false, eqb-true, not-false}
 use Rattle.base.specs.Refusal.{Causes, verdict, answer, noRoom}
 use Rattle.base.specs.Number.{highByte, lowByte}
-use Rattle.base.specs.Room.{put}
+use Rattle.base_room.specs.Room.{put}
 use Rattle.base.proofs.Booleans.{or-false}
 use Rattle.base.proofs.Refused.{Spared, spared, verdict-kept, verdict-further, answer-no, answer-yes}
-use Rattle.base.proofs.RoomLaws.{put-put}
+use Rattle.base_room.proofs.RoomLaws.{put-put}
 use Rattle.crc.specs.Crc.{crcStart, crcBytes}
 use Rattle.crc.proofs.Laws.{crc-append}
 use Rattle.command.specs.declared.Fields.{Fields}

@@ -5,7 +5,7 @@ use mathlib.Core.List.{List, [], _∷_, _++_}
 use lib.ListN.{length}
 use lib.Dec.{ltb}
 use Rattle.base.specs.Refusal.{Causes, verdict, answer, noRoom}
-use Rattle.base.specs.Room.{put}
+use Rattle.base_room.specs.Room.{put}
 use Rattle.command.specs.declared.Fields.{Fields}
 use Rattle.command.specs.Layout.{leastBytes, sequenceCounts, commandBytes}
 use Rattle.command.specs.Asking.{askedWrong, firstCauses, lastCauses}

@@ -2,7 +2,6 @@
 use base::Bytes;
 use base::number;
 use base::refusal;
-use base::room;
 use command::Fields;
 use command::HEAD;
 use command::ID;
@@ -13,7 +12,7 @@ use command_catalogue::judge;
 ghost use mathlib.Core.Path.{_≡_};
 ghost use Prim.Native.Nat.{_+_, _≤_, _<_};
 ghost use lib.ListN.{length};
-ghost use Rattle.base.specs.Room.{put};
+ghost use Rattle.base_room.specs.Room.{put};
 ghost use Rattle.command.specs.Layout.{laid, widths, headOf, commandBytes};
 ghost use Rattle.command_writing.specs.Writing.{settled, writeReply, writeRoom};
 
@@ -98,9 +97,9 @@ fn place(fields: Fields, further: &[u8], room: &mut [u8])
     let high = number::high_byte(crc);
     let low = number::low_byte(crc);
     let last = [high, low];
-    room::put_bytes(&front, room, Bytes(0));
-    room::put_bytes(further, room, Bytes(HEAD));
-    room::put_bytes(&last, room, Bytes(HEAD + n));
+    base_room::put_bytes(&front, room, Bytes(0));
+    base_room::put_bytes(further, room, Bytes(HEAD));
+    base_room::put_bytes(&last, room, Bytes(HEAD + n));
 }
 
 // A command into lent room.

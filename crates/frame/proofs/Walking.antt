@@ -9,7 +9,7 @@ use native.Mathlib.Numerals.{add-one}
 use lib.ListN.{length, getD, take, drop}
 use lib.Seq.{getD-drop, drop-drop}
 use lib.Dec.{eqb}
-use Rattle.base.proofs.RoomLaws.{to-end}
+use Rattle.base_room.proofs.RoomLaws.{to-end}
 use Rattle.base.proofs.Booleans.{and-left, and-right}
 use Rattle.chunk.specs.declared.Entry.{Entry}
 use Rattle.chunk.specs.Header.{size, span, confirmed}

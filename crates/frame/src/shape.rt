@@ -1,6 +1,5 @@
 // The shape of a frame, walked from its first word on: every place here counts from there.
 use base::Words;
-use base::room;
 use chunk::Check;
 use chunk::header;
 use chunk::header::HEADER;
@@ -31,7 +30,7 @@ fn confirmed(words: &[u16], sync: u16) -> bool
 fn joins(words: &[u16], sync: u16) -> bool
     ensures { λ r. ⌜ r ≡ joinsFrame sync (now (words .entry)) ⌝ }
 {
-    let word = room::word_at(words, Words(1));
+    let word = base_room::word_at(words, Words(1));
     confirmed(words, sync) & ((header::kind_of(word) == 0) & (header::camera_of(word) == 0))
 }
 
@@ -61,8 +60,8 @@ pub fn measure(words: &[u16], sync: u16) -> Reach
 pub fn closes(words: &[u16], sync: u16, camera: u16) -> bool
     ensures { λ r. ⌜ r ≡ closesFrame sync (now (words .entry)) camera ⌝ }
 {
-    let health = header::kind_of(room::word_at(words, Words(1))) == 1;
-    let observed = room::word_at(words, Words(2)) as u32 == 3 + camera as u32;
+    let health = header::kind_of(base_room::word_at(words, Words(1))) == 1;
+    let observed = base_room::word_at(words, Words(2)) as u32 == 3 + camera as u32;
     if !(health & observed) {
         return false;
     }

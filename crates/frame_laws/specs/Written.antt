@@ -5,7 +5,7 @@ use mathlib.Core.Bool.{Bool, true, false, _&&_}
 use mathlib.Core.List.{List, [], _∷_, _++_}
 use lib.ListN.{length}
 use lib.Dec.{leb, eqb}
-use Rattle.base.specs.Room.{put}
+use Rattle.base_room.specs.Room.{put}
 use Rattle.base.specs.Limit.{recordingLimit}
 use Rattle.chunk_laws.specs.Stretch.{Laid, words, offset, wholeRow}
 use Rattle.chunk_laws.specs.Written.{accepted, written}

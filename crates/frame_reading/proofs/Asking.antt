@@ -9,10 +9,10 @@ use lib.Seq.{getD-drop}
 use lib.Dec.{leb, ltb, eqb}
 use borrow.Author.Tests.{not-false, eqb-true, ltb-true, lt-ltb, le-ltb, ltb-false}
 use Rattle.base.proofs.Booleans.{and-left, and-right}
-use Rattle.base.proofs.RoomLaws.{to-end}
+use Rattle.base_room.proofs.RoomLaws.{to-end}
 use Rattle.base.specs.Refusal.{Causes, verdict, answer, wrongLength, nothingThere, frameCut, wrongParity, noRoom}
 use Rattle.base.specs.Limit.{tooLong}
-use Rattle.base.specs.Room.{put}
+use Rattle.base_room.specs.Room.{put}
 use Rattle.base.proofs.Refused.{numbered, spared, answer-no, answer-yes, verdict-kept, verdict-further}
 use Rattle.base.specs.declared.Words.{Words}
 use Rattle.chunk.specs.Header.{kind, camera, confirmed}

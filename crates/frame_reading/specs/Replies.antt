@@ -5,7 +5,7 @@ use mathlib.Core.List.{List, [], _∷_, _++_}
 use lib.ListN.{length, drop, getD}
 use lib.Dec.{ltb}
 use Rattle.base.specs.Refusal.{Causes, verdict, answer, wrongLength, nothingThere, frameCut, wrongParity, noRoom}
-use Rattle.base.specs.Room.{put}
+use Rattle.base_room.specs.Room.{put}
 use Rattle.base.specs.Limit.{tooLong}
 use Rattle.chunk.specs.Reading.{listedAt}
 use Rattle.parity_units.specs.Split.{anyDamaged}

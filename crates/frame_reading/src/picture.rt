@@ -5,7 +5,7 @@ use chunk::header;
 ghost use mathlib.Core.Path.{_≡_};
 ghost use Prim.Native.Nat.{_≤_};
 ghost use lib.ListN.{length};
-ghost use Rattle.base.specs.Room.{put};
+ghost use Rattle.base_room.specs.Room.{put};
 ghost use Rattle.parity_units.specs.Split.{anyDamaged, givenData, dataWords};
 ghost use Rattle.frame_reading.specs.Along.{wordsAlong, unitsAlong};
 

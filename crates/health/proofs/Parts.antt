@@ -5,8 +5,8 @@ use Prim.Native.Nat.{ℕ, _+_, _-_, _≤_}
 use native.Mathlib.Nat.{add-sub-cancel-left}
 use native.Mathlib.Omega.{arith}
 use lib.ListN.{length, take, drop, length-take, length-drop, drop-of-length-le}
-use Rattle.base.specs.Room.{put}
-use Rattle.base.proofs.RoomLaws.{put-fits, to-end}
+use Rattle.base_room.specs.Room.{put}
+use Rattle.base_room.proofs.RoomLaws.{put-fits, to-end}
 use Rattle.crc.specs.Crc.{crcWords, crcStart}
 use Rattle.crc.proofs.Laws.{crc-append}
 use Rattle.health.specs.Packet.{packetCrc}

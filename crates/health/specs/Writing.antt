@@ -5,7 +5,7 @@ use mathlib.Core.List.{List, [], _∷_}
 use lib.ListN.{length}
 use lib.Dec.{eqb, ltb}
 use Rattle.base.specs.Refusal.{Causes, verdict, answer, settled, wrongArgument, wrongLength, noRoom}
-use Rattle.base.specs.Room.{put}
+use Rattle.base_room.specs.Room.{put}
 use Rattle.base.specs.declared.Written.{Written}
 use Rattle.crc.specs.Crc.{crcWords, crcStart}
 use Rattle.health.specs.Packet.{permittedType}

@@ -2,7 +2,6 @@
 use base::Words;
 use base::Written;
 use base::refusal;
-use base::room;
 ghost use mathlib.Core.Path.{_≡_};
 ghost use lib.ListN.{length, take, drop};
 ghost use Rattle.base.specs.Refusal.{verdict};
@@ -50,7 +49,7 @@ pub fn judge(packet: &[u16], odd: bool) -> u8
     if packet.len() != SIZE {
         return refusal::LENGTH;
     }
-    let right = room::word_at(packet, Words(1)) == packet_crc(packet);
+    let right = base_room::word_at(packet, Words(1)) == packet_crc(packet);
     refusal::cause(
         refusal::CRC,
         !right,
@@ -62,7 +61,7 @@ pub fn judge(packet: &[u16], odd: bool) -> u8
 fn read_verdict(packet: &[u16]) -> u8
     ensures { λ r. ⌜ r ≡ verdict (readCauses (now (packet .entry))) ⌝ }
 {
-    judge(packet, !permitted(room::word_at(packet, Words(0))))
+    judge(packet, !permitted(base_room::word_at(packet, Words(0))))
 }
 
 // Whether these words are a sound packet.
@@ -94,7 +93,7 @@ fn words_of(packet: &[u16]) -> [u16; 29]
     ensures { λ r. ⌜ r ≡ drop 3 (now (packet .entry)) ⌝ }
 {
     let mut words = [0u16; 29];
-    room::put_words(&packet[3..], &mut words, Words(0));
+    base_room::put_words(&packet[3..], &mut words, Words(0));
     words
 }
 
@@ -119,8 +118,8 @@ pub fn read_packet(packet: &[u16]) -> Packet
     }
     Packet {
         refusal: 0,
-        packet_type: room::word_at(packet, Words(0)),
-        time: room::word_at(packet, Words(2)),
+        packet_type: base_room::word_at(packet, Words(0)),
+        time: base_room::word_at(packet, Words(2)),
         words: words_of(packet),
     }
 }
@@ -153,6 +152,6 @@ pub fn write_packet(packet_type: u16, time: u16, words: &[u16], room: &mut [u16]
         return reply;
     }
     let crc = crc::words(crc::words(crc::START, &[packet_type, time]), words);
-    room::put_joined(&[packet_type, crc, time], words, room);
+    base_room::put_joined(&[packet_type, crc, time], words, room);
     reply
 }

@@ -1,6 +1,5 @@
 // The flat field checksums of a health packet of type 8; a packet of another type is refused by 7.
 use base::Words;
-use base::room;
 use health::packet;
 ghost use mathlib.Core.Path.{_≡_};
 ghost use Prim.Native.Nat.{_+_, _≤_};
@@ -12,7 +11,7 @@ ghost use Rattle.health_checksums.specs.Checksums.{checksumsCauses, chec
 pub fn checksums_refusal(packet: &[u16]) -> u8
     ensures { λ r. ⌜ r ≡ verdict (checksumsCauses (now (packet .entry))) ⌝ }
 {
-    packet::judge(packet, room::word_at(packet, Words(0)) != 8)
+    packet::judge(packet, base_room::word_at(packet, Words(0)) != 8)
 }
 
 // The eight pages of the camera whose words begin at a place.
@@ -22,7 +21,7 @@ fn pages(packet: &[u16], from: usize) -> [u16; 8]
 {
     let mut words = [0u16; 8];
     let end = from + 8;
-    room::put_words(&packet[from..end], &mut words, Words(0));
+    base_room::put_words(&packet[from..end], &mut words, Words(0));
     words
 }
 

@@ -1,7 +1,6 @@
 // The search for a packet, in a row of packets, in a chunk and in a science recording.
 use crate::Sought;
 use base::Words;
-use base::room;
 use chunk::Found;
 use chunk::header;
 use chunk::search;
@@ -18,7 +17,7 @@ ghost use Rattle.health_last.specs.Last.{inScience};
 fn is_of(words: &[u16], packet_type: u16, at: usize) -> bool
     ensures { λ r. ⌜ r ≡ soundOf (now (words .entry)) «packet_type» at ⌝ }
 {
-    if room::word_at(words, Words(at)) != packet_type {
+    if base_room::word_at(words, Words(at)) != packet_type {
         return false;
     }
     packet::sound_at(words, Words(at))

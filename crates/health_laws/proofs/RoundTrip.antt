@@ -11,7 +11,7 @@ use borrow.Author.Tests.{eq-eqb, eqb-true, le-ltb}
 use Rattle.base.proofs.Booleans.{and-left, and-right}
 use Rattle.base.specs.Refusal.{verdict}
 use Rattle.base.proofs.Refused.{answer-yes}
-use Rattle.base.proofs.RoomLaws.{put-fits}
+use Rattle.base_room.proofs.RoomLaws.{put-fits}
 use Rattle.health.specs.Packet.{packetType, packetTime, packetWords, packetCrc, crcRight, permittedType, soundPacket}
 use Rattle.health.specs.Reading.{readCauses, packetOf, readReply}
 use Rattle.health.specs.Writing.{writableType, writtenCrc, packetFrom, writeVerdict, writeRoom}

@@ -1,6 +1,5 @@
 // The observations of a camera in a health packet: types 4, 5 and 6 for cameras 1, 2 and 3. A packet of another type is refused by 7.
 use base::Words;
-use base::room;
 use health::packet;
 ghost use mathlib.Core.Path.{_≡_};
 ghost use Prim.Native.Nat.{_≤_};
@@ -64,9 +63,9 @@ fn observation_verdict(packet: &[u16]) -> u8
     ensures { λ r. ⌜ r ≡ verdict (observationCauses (now (packet .entry))) ⌝ }
 {
     let ours = is_observation(
-        room::word_at(packet, Words(0)),
-        room::word_at(packet, Words(6)),
-        room::word_at(packet, Words(7)),
+        base_room::word_at(packet, Words(0)),
+        base_room::word_at(packet, Words(6)),
+        base_room::word_at(packet, Words(7)),
     );
     packet::judge(packet, !ours)
 }
@@ -99,19 +98,19 @@ fn observation_fields(packet: &[u16]) -> Observed
     requires { ⌜ (length (now packet) ≡ 32) × (3 ≤ getD (now packet) 0 0) ⌝ }
     ensures { λ r. ⌜ r ≡ observationOf (now (packet .entry)) ⌝ }
 {
-    let times = room::word_at(packet, Words(4));
-    let mode_word = room::word_at(packet, Words(5));
-    let flags = room::word_at(packet, Words(6));
+    let times = base_room::word_at(packet, Words(4));
+    let mode_word = base_room::word_at(packet, Words(5));
+    let flags = base_room::word_at(packet, Words(6));
     let mut others = [0u16; 8];
     let mut bins = [0u16; 16];
-    room::put_words(&packet[8..16], &mut others, Words(0));
-    room::put_words(&packet[16..], &mut bins, Words(0));
+    base_room::put_words(&packet[8..16], &mut others, Words(0));
+    base_room::put_words(&packet[16..], &mut bins, Words(0));
     Observed {
         refusal: 0,
-        camera: room::word_at(packet, Words(0)) - 3,
-        crc: room::word_at(packet, Words(1)),
-        time: room::word_at(packet, Words(2)),
-        frame: room::word_at(packet, Words(3)),
+        camera: base_room::word_at(packet, Words(0)) - 3,
+        crc: base_room::word_at(packet, Words(1)),
+        time: base_room::word_at(packet, Words(2)),
+        frame: base_room::word_at(packet, Words(3)),
         period: times / 256,
         exposure: times % 256,
         mode: mode_of(mode_word / 256),
@@ -121,7 +120,7 @@ fn observation_fields(packet: &[u16]) -> Observed
         flat_en: flags / 8192 % 2 == 1,
         ff_led_en: flags / 4096 % 2 == 1,
         st_asap: flags / 2048 % 2 == 1,
-        region: room::word_at(packet, Words(7)) / 4096,
+        region: base_room::word_at(packet, Words(7)) / 4096,
         others,
         bins,
     }

@@ -1,6 +1,5 @@
 // The single event upsets of a health packet of type 10; a packet of another type is refused by 7.
 use base::Words;
-use base::room;
 use health::packet;
 ghost use mathlib.Core.Path.{_≡_};
 ghost use mathlib.Core.List.{map};
@@ -27,13 +26,13 @@ pub struct UpsetTable {
 fn last_filled(packet: &[u16]) -> u16
     ensures { λ r. ⌜ r ≡ lastFilled (now (packet .entry)) ⌝ }
 {
-    room::word_at(packet, Words(4)) % 256
+    base_room::word_at(packet, Words(4)) % 256
 }
 
 fn upset_verdict(packet: &[u16]) -> u8
     ensures { λ r. ⌜ r ≡ verdict (upsetsCauses (now (packet .entry))) ⌝ }
 {
-    let packet_type = room::word_at(packet, Words(0));
+    let packet_type = base_room::word_at(packet, Words(0));
     let last = last_filled(packet);
     packet::judge(packet, !((packet_type == 10) & (last <= 8)))
 }
@@ -45,9 +44,9 @@ fn upset_after(packet: &[u16], last: u16, k: u16) -> Upset
 {
     let i = ((last + 1 + k) % 9) as usize;
     Upset {
-        address: room::word_at(packet, Words(5 + 3 * i)),
-        time: room::word_at(packet, Words(6 + 3 * i)),
-        value: room::word_at(packet, Words(7 + 3 * i)),
+        address: base_room::word_at(packet, Words(5 + 3 * i)),
+        time: base_room::word_at(packet, Words(6 + 3 * i)),
+        value: base_room::word_at(packet, Words(7 + 3 * i)),
     }
 }
 
@@ -95,7 +94,7 @@ pub fn upsets(packet: &[u16]) -> UpsetTable
     let last = last_filled(packet);
     UpsetTable {
         refusal: 0,
-        total: room::word_at(packet, Words(3)),
+        total: base_room::word_at(packet, Words(3)),
         last,
         entries: oldest_first(packet, last),
     }

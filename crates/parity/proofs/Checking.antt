@@ -10,9 +10,9 @@ use lib.ListN.{length, getD, take, drop, set, length-drop, length-set, List·get
 use lib.Seq.{set-append-left}
 use borrow.Author.Tests.{ltb-false}
 use Rattle.base.specs.Xor.{_⊕_}
-use Rattle.base.specs.Room.{put}
+use Rattle.base_room.specs.Room.{put}
 use Rattle.base.proofs.Refused.{answer-no, answer-yes, spared}
-use Rattle.base.proofs.RoomLaws.{put-fits, put-length, to-end}
+use Rattle.base_room.proofs.RoomLaws.{put-fits, put-length, to-end}
 use Rattle.parity.specs.declared.Judged.{Judged}
 use Rattle.parity.specs.Unit.{Finding, sound, parityBit, dataBit, neither, flipped, finding, named, repaired, unitData, checkCauses, checkVerdict, checkReply, checkRoom}
 use Rattle.parity.proofs.Cases.{Within, data-within}

@@ -4,7 +4,7 @@ use mathlib.Core.List.{List, _++_}
 use Prim.Native.Nat.{ℕ, _+_}
 use lib.ListN.{length}
 use Rattle.base.specs.declared.Written.{Written}
-use Rattle.base.specs.Room.{put}
+use Rattle.base_room.specs.Room.{put}
 use Rattle.base.proofs.Refused.{answer-no, answer-yes, settled-refusal}
 use Rattle.parity_rows.specs.Parity.{parityWords}
 use Rattle.parity.specs.Unit.{unitOf, writeVerdict, writeReply, writeRoom}

@@ -5,7 +5,7 @@ use Prim.Native.Nat.{ℕ, zero, suc, _+_, _-_, _*_, _/_, _%_, _^_}
 use lib.Dec.{leb, ltb, eqb}
 use lib.ListN.{length, getD, set, drop}
 use Rattle.base.specs.Xor.{_⊕_}
-use Rattle.base.specs.Room.{put}
+use Rattle.base_room.specs.Room.{put}
 use Rattle.base.specs.Refusal.{Causes, verdict, answer, settled, wrongLength, wrongParity, noRoom}
 use Rattle.base.specs.declared.Written.{Written}
 use Rattle.parity.specs.declared.Judged.{Judged}

@@ -2,7 +2,6 @@
 use base::Words;
 use base::Written;
 use base::refusal;
-use base::room;
 ghost use mathlib.Core.Path.{_≡_};
 ghost use Prim.Native.Nat.{_-_, _%_, _≤_};
 ghost use lib.ListN.{length};
@@ -115,7 +114,7 @@ pub fn check_unit(unit: &[u16], room: &mut [u16]) -> Judged
     if r.refusal != 0 {
         return r;
     }
-    room::put_words(&unit[8..], room, Words(0));
+    base_room::put_words(&unit[8..], room, Words(0));
     if r.case != 2 {
         return r;
     }
@@ -149,6 +148,6 @@ pub fn write_unit(data: &[u16], room: &mut [u16]) -> Written
         return r;
     }
     let parity = parity_rows::parity_words(data);
-    room::put_joined(&parity, data, room);
+    base_room::put_joined(&parity, data, room);
     r
 }

@@ -12,7 +12,7 @@ use lib.ListN.{length, getD, set, drop, length-set}
 use lib.Seq.{drop-set-lt, drop-set-add, getD-drop, getD-set-same, set-set, set-getD}
 use borrow.Author.Tests.{le-leb, lt-ltb, ltb-true, ltb-false}
 use Rattle.base.specs.Xor.{_⊕_}
-use Rattle.base.specs.Room.{put}
+use Rattle.base_room.specs.Room.{put}
 use Rattle.base.proofs.XorLaws.{xor-assoc}
 use Rattle.base.proofs.Refused.{answer-yes}
 use Rattle.parity.specs.declared.Judged.{Judged}

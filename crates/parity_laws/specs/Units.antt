@@ -6,7 +6,7 @@ use mathlib.Core.Bool.{cond}
 use mathlib.Core.List.{List, [], _∷_}
 use lib.ListN.{length}
 use lib.Dec.{ltb}
-use Rattle.base.specs.Room.{put}
+use Rattle.base_room.specs.Room.{put}
 use Rattle.parity.specs.Unit.{unitOf, flipped, judgeVerdict, unitData, reply, checkReply, checkRoom}
 
 -- data that a unit is written for

@@ -1,7 +1,6 @@
 // The parity of data, taken as 64 rows of 64 bits: in one pass by rows of four words, zeros past the end.
 use base::Words;
 use base::number;
-use base::room;
 ghost use mathlib.Core.Path.{_≡_};
 ghost use Prim.Native.Nat.{_<_, _≤_};
 ghost use Rattle.parity_rows.specs.Parity.{number, bitFrom, parityWords, parities, statedParity};
@@ -25,10 +24,10 @@ fn bits_from(words: &[u16], at: usize) -> u64
     ensures { λ r. ⌜ r ≡ number 64 (bitFrom (now (words .entry)) at) ⌝ }
 {
     pack_row(
-        room::word_at(words, Words(at)),
-        room::word_at(words, Words(at + 1)),
-        room::word_at(words, Words(at + 2)),
-        room::word_at(words, Words(at + 3)),
+        base_room::word_at(words, Words(at)),
+        base_room::word_at(words, Words(at + 1)),
+        base_room::word_at(words, Words(at + 2)),
+        base_room::word_at(words, Words(at + 3)),
     )
 }
 

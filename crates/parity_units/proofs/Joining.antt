@@ -10,11 +10,11 @@ use lib.Dec.{eqb, ltb}
 use borrow.Author.Tests.{eqb-true, eqb-false, le-ltb, le-leb, lt-leb}
 use borrow.Rule.Slice.PartMut.{putMid}
 use Rattle.base.specs.Refusal.{verdict, answer, noRoom}
-use Rattle.base.specs.Room.{put}
+use Rattle.base_room.specs.Room.{put}
 use Rattle.base.proofs.Refused.{spared, answer-yes, answer-no, verdict-kept}
-use Rattle.base.proofs.RoomLaws.{put-fits}
-use Rattle.base.proofs.Filling as filling
-use Rattle.base.proofs.Filling.{Filled, put-lent}
+use Rattle.base_room.proofs.RoomLaws.{put-fits}
+use Rattle.base_room.proofs.Filling as filling
+use Rattle.base_room.proofs.Filling.{Filled, put-lent}
 use Rattle.parity.specs.declared.Judged.{Judged}
 use Rattle.parity.specs.Unit.{Finding, sound, parityBit, dataBit, neither, finding, unitData}
 use Rattle.parity.specs.Unit.{judgeCauses, judgeVerdict, refused, named, checkCauses, checkVerdict, checkReply, checkRoom}

@@ -4,7 +4,7 @@ use mathlib.Core.Bool.{cond}
 use mathlib.Core.List.{List, [], _∷_}
 use lib.ListN.{length}
 use lib.Dec.{leb, eqb}
-use Rattle.base.specs.Room.{put}
+use Rattle.base_room.specs.Room.{put}
 use Rattle.parity.specs.declared.Judged.{Judged}
 use Rattle.parity.specs.Unit.{judgeReply}
 use Rattle.parity_units.specs.declared.Outcomes.{Outcomes}

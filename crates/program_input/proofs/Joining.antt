@@ -9,11 +9,11 @@ use lib.ListN.{length, getD, set}
 use lib.Dec.{ltb, eqb}
 use borrow.Author.Tests.{ltb-false, eqb-false}
 use Rattle.base.specs.Refusal.{verdict, answer, settled, wrote}
-use Rattle.base.specs.Room.{put}
+use Rattle.base_room.specs.Room.{put}
 use Rattle.base.specs.declared.Written.{Written}
 use Rattle.base.proofs.Refused.{spared, answer-no, answer-yes, settled-refusal}
-use Rattle.base.proofs.RoomLaws.{put-length}
-use Rattle.base.proofs.Pasting.{Pasted, pasted-more}
+use Rattle.base_room.proofs.RoomLaws.{put-length}
+use Rattle.base_room.proofs.Pasting.{Pasted, pasted-more}
 use Rattle.program_input.specs.Input.{wordsOf, wordsCauses, wordsReply, wordsRoom}
 
 pub words-length : (bytes : List ℕ) → length (wordsOf bytes) ≡ length bytes / 2

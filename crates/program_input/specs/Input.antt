@@ -9,7 +9,7 @@ use lib.Dec.{ltb, eqb}
 use Rattle.base.specs.Limit.{listingLimit}
 use Rattle.base.specs.Number.{word}
 use Rattle.base.specs.Refusal.{Causes, wrongLength, noRoom, verdict, followsPaper, answer, settled}
-use Rattle.base.specs.Room.{put}
+use Rattle.base_room.specs.Room.{put}
 use Rattle.base.specs.declared.Written.{Written}
 
 -- files hold words high byte first

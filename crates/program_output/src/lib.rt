@@ -1,11 +1,10 @@
 // A program's output: text and numbers are gathered on a page that the caller lends, and written when it is full and at the end.
 use base::Bytes;
-use base::room;
 ghost use mathlib.Core.Path.{_≡_};
 ghost use Prim.Native.Nat.{_+_};
 ghost use lib.ListN.{length};
 ghost use lib.Dec.{leb};
-ghost use Rattle.base.specs.Room.{put};
+ghost use Rattle.base_room.specs.Room.{put};
 ghost use Rattle.program_output.specs.Output.{pageSize, toReply, appendReply, decimal};
 
 // bytes that are written at once
@@ -41,7 +40,7 @@ impl Out {
         let used = self.used.0;
         let more = bytes.len();
         let fit = fits(Bytes(used), Bytes(more));
-        room::put_bytes(bytes, page, Bytes(used));
+        base_room::put_bytes(bytes, page, Bytes(used));
         if !fit {
             self.failed = true;
             return self;

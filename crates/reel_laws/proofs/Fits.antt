@@ -11,10 +11,10 @@ use borrow.Author.Tests.{eqb-true, leb-true, not-false}
 use Rattle.base.proofs.Booleans.{and-left, and-right}
 use Rattle.base.specs.Limit.{reelLimit}
 use Rattle.base.specs.Refusal.{wrongReel, verdict, answer, settled, wrote}
-use Rattle.base.specs.Room.{put}
+use Rattle.base_room.specs.Room.{put}
 use Rattle.base.specs.declared.Written.{Written}
 use Rattle.base.proofs.Refused.{spared, answer-yes, settled-refusal}
-use Rattle.base.proofs.RoomLaws.{put-fits}
+use Rattle.base_room.proofs.RoomLaws.{put-fits}
 use Rattle.chunk.specs.declared.Entry.{Entry}
 use Rattle.chunk.specs.Reading.{entry, reading}
 use Rattle.reel.specs.declared.Reel.{Reel}

@@ -10,10 +10,10 @@ use lib.Dec.{ltb}
 use borrow.Author.Tests.{ltb-false, lt-ltb, le-ltb}
 use Rattle.base.specs.Limit.{reelLimit}
 use Rattle.base.specs.Refusal.{wrongLength, noRoom, verdict, settled, answer}
-use Rattle.base.specs.Room.{put}
+use Rattle.base_room.specs.Room.{put}
 use Rattle.base.specs.declared.Written.{Written}
 use Rattle.base.proofs.Refused.{spared, answer-no, answer-yes, settled-refusal}
-use Rattle.base.proofs.RoomLaws.{put-put, put-length}
+use Rattle.base_room.proofs.RoomLaws.{put-put, put-length}
 use Rattle.chunk.specs.Reading.{reading}
 use Rattle.reel.specs.Layout.{entryWidth, indexWords, trailer, tailWords, reelOf}
 use Rattle.reel_writing.specs.Writing.{reelLength, writeCauses, writeReply, writeRoom}

@@ -5,7 +5,7 @@ use lib.ListN.{length}
 use lib.Dec.{ltb}
 use Rattle.base.specs.Limit.{reelLimit}
 use Rattle.base.specs.Refusal.{Causes, wrongLength, noRoom, verdict, answer, settled}
-use Rattle.base.specs.Room.{put}
+use Rattle.base_room.specs.Room.{put}
 use Rattle.base.specs.declared.Written.{Written}
 use Rattle.chunk.specs.Reading.{reading}
 use Rattle.reel.specs.Layout.{reelWords, reelOf}

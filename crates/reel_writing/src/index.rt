@@ -1,6 +1,5 @@
 // The index of a reel that is written, entry by entry as the recording is read.
 use base::Words;
-use base::room;
 use chunk::Entry;
 use chunk::Found;
 use chunk::search;
@@ -9,7 +8,7 @@ ghost use mathlib.Core.Path.{_≡_};
 ghost use Prim.Native.Nat.{_+_, _*_, _≤_, _<_};
 ghost use lib.ListN.{length};
 ghost use Rattle.base.specs.Limit.{reelLimit};
-ghost use Rattle.base.specs.Room.{put};
+ghost use Rattle.base_room.specs.Room.{put};
 ghost use Rattle.chunk.specs.Reading.{reading};
 ghost use Rattle.reel.specs.Layout.{entryWidth, entryWords, indexWords};
 
@@ -18,7 +17,7 @@ fn put_entry(entry: Entry, room: &mut [u16], at: usize)
     requires { ⌜ entry .position .0 < 65536 ⌝ }
     ensures { λ _. ⌜ now (room .exit) ≡ put (entryWords entry) at (now (room .entry)) ⌝ }
 {
-    room::put_words(&[entry.position.0 as u16, entry.header], room, Words(at));
+    base_room::put_words(&[entry.position.0 as u16, entry.header], room, Words(at));
 }
 
 // Writes the entries of a recording into the room behind its n words, and counts them.

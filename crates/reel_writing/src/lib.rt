@@ -6,7 +6,6 @@ use base::Words;
 use base::Written;
 use base::limit;
 use base::refusal;
-use base::room;
 use chunk_reading::counting;
 ghost use mathlib.Core.Path.{_≡_};
 ghost use lib.ListN.{length};
@@ -35,7 +34,7 @@ pub fn write(recording: &[u16], sync: u16, room: &mut [u16]) -> Written
     if reply.refusal != 0 {
         return reply;
     }
-    room::put_words(recording, room, Words(0));
+    base_room::put_words(recording, room, Words(0));
     let count = index::write(recording, sync, room);
     trailer::put_trailer(room, recording.len(), count);
     reply

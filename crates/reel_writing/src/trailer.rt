@@ -1,12 +1,11 @@
 // The trailer of a reel that is written, and the words that the reel has with it.
 use base::Words;
-use base::room;
 use reel::layout;
 ghost use mathlib.Core.Path.{_≡_};
 ghost use Prim.Native.Nat.{_+_, _*_, _≤_};
 ghost use lib.ListN.{length, take, drop};
 ghost use Rattle.base.specs.Limit.{reelLimit};
-ghost use Rattle.base.specs.Room.{put};
+ghost use Rattle.base_room.specs.Room.{put};
 ghost use Rattle.reel.specs.Layout.{entryWidth, reelWords, trailer};
 
 // The words of a reel.
@@ -23,8 +22,8 @@ pub fn put_trailer(room: &mut [u16], n: usize, count: usize)
     ensures { λ _. ⌜ now (room .exit) ≡ put (trailer (take (entryWidth * count) (drop n (now (room .entry)))) count n) (n + entryWidth * count) (now (room .entry)) ⌝ }
 {
     let at = n + layout::ENTRY * count;
-    room::put_words(&[count as u16, n as u16], room, Words(at));
+    base_room::put_words(&[count as u16, n as u16], room, Words(at));
     let covered = at + 2;
     let crc = crc::words(crc::START, &room[n..covered]);
-    room::put_words(&[crc, layout::EDITION], room, Words(covered));
+    base_room::put_words(&[crc, layout::EDITION], room, Words(covered));
 }

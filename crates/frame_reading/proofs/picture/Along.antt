@@ -7,9 +7,9 @@ use Prim.Native.Nat.{ℕ, zero, suc, _+_, _-_, _≤_, _<_}
 use native.Mathlib.Omega.{arith}
 use lib.ListN.{length, getD, take, drop, length-append}
 use lib.Seq.{getD-drop, drop-drop}
-use Rattle.base.specs.Room.{put}
-use Rattle.base.proofs.Filling as filling
-use Rattle.base.proofs.Filling.{Filled}
+use Rattle.base_room.specs.Room.{put}
+use Rattle.base_room.proofs.Filling as filling
+use Rattle.base_room.proofs.Filling.{Filled}
 use Rattle.chunk.specs.Header.{size, span}
 use Rattle.parity_units.specs.Split.{unitsIn, anyDamaged, givenData, dataWords}
 use Rattle.parity_units.specs.Replies.{joinReply, joinRoom}

@@ -4,7 +4,7 @@ use mathlib.Core.List.{List, [], _∷_, _++_}
 use Prim.Native.Nat.{ℕ}
 use lib.ListN.{length}
 use Rattle.base.specs.declared.Written.{Written}
-use Rattle.base.specs.Room.{put}
+use Rattle.base_room.specs.Room.{put}
 use Rattle.base.proofs.Refused.{answer-no, answer-yes, settled-refusal}
 use Rattle.crc.specs.Crc.{crcWords, crcStart}
 use Rattle.health.specs.Writing.{writtenCrc, writeVerdict, writeReply, writeRoom}

@@ -4,7 +4,7 @@ use native.Mathlib.Omega.{arith}
 use lib.ListN.{length}
 use lib.Count.{leading-le}
 use Rattle.base.specs.Xor.{_⊕_}
-use Rattle.base.proofs.RoomLaws.{to-end}
+use Rattle.base_room.proofs.RoomLaws.{to-end}
 use Rattle.parity_rows.specs.Parity.{parities}
 use Rattle.parity.proofs.Judging.{between, wrong-length, judged-by}
 use borrow.Author.Needs.{needs}

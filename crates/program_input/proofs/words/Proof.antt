@@ -3,7 +3,7 @@ use Prim.Native.Nat.{_-_, _/_}
 use native.Mathlib.Omega.{arith}
 use lib.ListN.{length}
 use borrow.Author.Needs.{needs}
-use Rattle.base.proofs.Pasting.{Pasted, pasted-none, pasted-all}
+use Rattle.base_room.proofs.Pasting.{Pasted, pasted-none, pasted-all}
 use Rattle.program_input.specs.Input.{wordsOf}
 use Rattle.program_input.proofs.Joining.{words-length, joined, untouched, fits, written}
 use Rattle.program_input.proofs.words.Statement.{statement}

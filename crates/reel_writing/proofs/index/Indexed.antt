@@ -5,8 +5,8 @@ use Prim.Native.Nat.{ℕ, suc, _+_, _*_, _≤_}
 use native.Mathlib.Nat.{add-zero}
 use native.Mathlib.Omega.{arith}
 use lib.ListN.{length, take, drop, take-append-drop}
-use Rattle.base.specs.Room.{put}
-use Rattle.base.proofs.RoomLaws.{put-fits, put-put, put-length}
+use Rattle.base_room.specs.Room.{put}
+use Rattle.base_room.proofs.RoomLaws.{put-fits, put-put, put-length}
 use Rattle.chunk.specs.declared.Entry.{Entry}
 use Rattle.chunk.specs.Reading.{reading}
 use Rattle.chunk.proofs.Steps.{Next, Last}

@@ -5,8 +5,8 @@ use Prim.Native.Nat.{ℕ, _+_, _*_, _-_, _≤_}
 use native.Mathlib.Omega.{arith}
 use lib.ListN.{length, take, drop, length-append, length-drop}
 use lib.Seq.{drop-append-le, take-at, drop-at, take-add, length-take-le}
-use Rattle.base.specs.Room.{put}
-use Rattle.base.proofs.RoomLaws.{put-fits, put-put}
+use Rattle.base_room.specs.Room.{put}
+use Rattle.base_room.proofs.RoomLaws.{put-fits, put-put}
 use Rattle.crc.specs.Crc.{crcWords, crcStart}
 use Rattle.reel.specs.Layout.{entryWidth, edition, pointers, reelCrc, trailer, reelWords}
 

@@ -2,8 +2,8 @@
 use mathlib.Core.Path.{_≡_, ap, _∙_}
 use native.Mathlib.Omega.{arith}
 use lib.ListN.{length}
-use Rattle.base.specs.Room.{put}
-use Rattle.base.proofs.RoomLaws.{put-length}
+use Rattle.base_room.specs.Room.{put}
+use Rattle.base_room.proofs.RoomLaws.{put-length}
 use Rattle.reel.proofs.Fewest.{few-chunks}
 use Rattle.reel_writing.proofs.Writing.{refused-untouched, accepted-short, accepted-fits, accepted-written, reel-put}
 use borrow.Author.Needs.{needs}

@@ -6,7 +6,7 @@ use mathlib.Core.List.{List}
 use Prim.Native.Nat.{ℕ, _+_, _-_, _≤_, _<_}
 use native.Mathlib.Omega.{arith}
 use lib.ListN.{length, take, drop, length-drop}
-use Rattle.base.proofs.RoomLaws.{to-end}
+use Rattle.base_room.proofs.RoomLaws.{to-end}
 use Rattle.frame.specs.declared.Frame.{Frame}
 use Rattle.frame.specs.declared.Piece.{Piece}
 use Rattle.frame.specs.declared.shape.Reach.{Reach}

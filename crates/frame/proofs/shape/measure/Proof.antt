@@ -6,7 +6,7 @@ use native.Mathlib.Omega.{arith}
 use lib.ListN as ListN
 use lib.Dec.{eqb}
 use borrow.Author.Needs.{needs}
-use Rattle.base.proofs.RoomLaws.{to-end}
+use Rattle.base_room.proofs.RoomLaws.{to-end}
 use Rattle.chunk.specs.Header as header
 use Rattle.frame.specs.Walk.{joinsFrame}
 use Rattle.frame.proofs.Walking.{Walked, longer-than-header, first-walked, joining-fits, one-more-walked, all-walked}

@@ -4,7 +4,7 @@ use mathlib.Core.List.{List}
 use Prim.Native.Nat.{ℕ}
 use lib.ListN.{length}
 use borrow.Author.Needs.{needs}
-use Rattle.base.specs.Room.{put}
+use Rattle.base_room.specs.Room.{put}
 use Rattle.program_output.specs.Output.{appendReply}
 use Rattle.program_output.proofs.Spelling.{spelled}
 use Rattle.program_output.proofs.Out.append_number.Statement.{statement}
