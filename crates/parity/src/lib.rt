@@ -5,8 +5,7 @@ use base::refusal;
 ghost use mathlib.Core.Path.{_≡_};
 ghost use Prim.Native.Nat.{_-_, _%_, _≤_};
 ghost use lib.ListN.{length};
-ghost use Rattle.parity.specs.Unit.{reply, refused, fiveCases, judgeReply, checkReply, checkRoom, writeReply, writeRoom};
-ghost use Rattle.parity.specs.Answered.{answerOf};
+ghost use Rattle.parity.specs.Unit.{reply, refused, named, fiveCases, judgeReply, checkReply, checkRoom, writeReply, writeRoom};
 
 // What is found of a unit: the case (0 sound, 1 a parity bit was hit, 2 a data bit was hit and is repaired), the parity or data
 // word and the bit that was hit, zeros if sound, and the number of data words.
@@ -52,7 +51,7 @@ fn bit_of(place: usize) -> u8
 // The five cases, where r rows and c columns differ, `row` and `column` first, in a unit with k data words.
 fn five_cases(r: u32, c: u32, row: usize, column: usize, k: usize) -> Judged
     requires { ⌜ (row ≤ 64) × (column ≤ 64) ⌝ }
-    ensures { λ j. ⌜ j ≡ answerOf (fiveCases r c row column k) k ⌝ }
+    ensures { λ j. ⌜ j ≡ named (fiveCases r c row column k) k ⌝ }
 {
     let word = 4 * row + column / 16;
     if (r == 0) & (c == 0) {
