@@ -2,12 +2,13 @@
 use mathlib.Core.Path.{_≡_, refl, sym, ap, _∙_}
 use mathlib.Core.Bool.{Bool, true, false, cond, not, _&&_, false≢true}
 use mathlib.Core.List.{List, [], _∷_}
+use mathlib.Core.Logic.{_⊎_, inl, inr}
 use Prim.Native.Nat.{ℕ, _-_, _<_, _≤_}
 use native.Mathlib.Omega.{arith}
 use lib.Dec.{leb, ltb, eqb}
 use lib.Count.{ones, leadingZeros}
 use lib.ListN.{length, drop}
-use borrow.Author.Tests.{leb-true, le-ltb, lt-ltb, eqb-true}
+use borrow.Author.Tests.{leb-true, leb-false, lt-leb, le-ltb, lt-ltb, eqb-true}
 use Rattle.base.specs.Xor.{_⊕_}
 use Rattle.base.proofs.Refused.{spared, verdict-kept, verdict-further, answer-no, answer-yes}
 use Rattle.base.specs.Refusal.{Causes, answer, wrongLength, wrongParity, noRoom}
@@ -26,11 +27,28 @@ between a b n e = by-tests (leb a n) (leb n b) refl refl e
     by-tests true false p q h = let z : _≡_ {A = ℕ} 0 1 = cc in absurd (omega arith)
     by-tests false t p q h = let z : _≡_ {A = ℕ} 0 1 = cc in absurd (omega arith)
 
+-- and one outside them
+pub outside : (a b n : ℕ) → not (leb a n && leb n b) ≡ true → (n < a) ⊎ (b < n)
+outside a b n e = by-tests (leb a n) (leb n b) refl refl e
+  where
+    by-tests : (s t : Bool) → leb a n ≡ s → leb n b ≡ t → not (s && t) ≡ true → (n < a) ⊎ (b < n)
+    by-tests false t p q h = inl (leb-false a n p)
+    by-tests true false p q h = inr (leb-false n b q)
+    by-tests true true p q h = absurd (false≢true h)
+
 -- ---- the judge
 
-pub wrong-length : (u : List ℕ) → notUnit (length u) ≡ true → refused wrongLength ≡ judgeReply u
+not-unit : (n : ℕ) → (n < 9) ⊎ (264 < n) → notUnit n ≡ true
+not-unit n (inl h) = rw (lt-leb 9 n h)
+not-unit n (inr h) = by-start (leb 9 n)
+  where
+    by-start : (s : Bool) → not (s && leb n 264) ≡ true
+    by-start true = rw (lt-leb n 264 h)
+    by-start false = refl
+
+pub wrong-length : (u : List ℕ) → (length u < 9) ⊎ (264 < length u) → refused wrongLength ≡ judgeReply u
 unfolding judgeReply judgeVerdict answer
-wrong-length u h = simp h
+wrong-length u h = simp (not-unit (length u) h)
 
 pub judgement : (u : List ℕ) → notUnit (length u) ≡ false → named (finding u) (length u - 8) ≡ judgeReply u
 unfolding judgeReply judgeVerdict answer
