@@ -1,6 +1,7 @@
 pub mod Tests
 pub mod Accounting
 pub mod ByPlace
+pub mod Listed
 pub mod Rows
 pub mod Stretch
 pub mod Resync

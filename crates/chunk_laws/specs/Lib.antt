@@ -1,4 +1,5 @@
 pub mod Stretch
+pub mod Listed
 pub mod Resync
 pub mod Outside
 pub mod Hidden
