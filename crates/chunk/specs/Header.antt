@@ -56,3 +56,8 @@ confirmed sync ws = headed sync ws && ends sync (span (getD ws 1 0)) ws
 abbrev pub checkOf : Bool → Check
 checkOf true = Check.Confirmed
 checkOf false = Check.NotAChunk
+
+-- the number of each of its answers
+abbrev pub checkNumber : Check → ℕ
+checkNumber Check.NotAChunk = 0
+checkNumber Check.Confirmed = 1

@@ -2,6 +2,7 @@ pub mod Tests
 pub mod Accounting
 pub mod ByPlace
 pub mod Listed
+pub mod Answers
 pub mod Rows
 pub mod Stretch
 pub mod Resync

@@ -1,5 +1,6 @@
 pub mod Stretch
 pub mod Listed
+pub mod Answers
 pub mod Resync
 pub mod Outside
 pub mod Hidden
