@@ -7,7 +7,7 @@ use mathlib.Core.Logic.{_⊎_}
 use lib.ListN.{length, getD, take, drop}
 use Rattle.base.specs.Limit.{recordingLimit}
 use Rattle.chunk.specs.declared.Entry.{Entry}
-use Rattle.chunk.specs.Header.{size}
+use Rattle.chunk.specs.Header.{headerWidth, size}
 use Rattle.chunk.specs.Reading.{entry, reading, listedAt}
 use Rattle.chunk_reading.specs.Place.{headingOf, atReply, payloadReply}
 
@@ -25,7 +25,7 @@ pub record Places (sync : ℕ) (ws : List ℕ) : Type 0 where
   -- in a recording within the limit its kind, camera and size are the entry's, and its payload are the words after the header
   pub answered : length ws ≤ recordingLimit → (e : Entry) → Among e (reading sync ws)
       → (atReply sync ws (e .position .0) ≡ headingOf (e .header))
-      × (payloadReply sync ws (e .position .0) ≡ take (size (e .header)) (drop (e .position .0 + 2) ws))
+      × (payloadReply sync ws (e .position .0) ≡ take (size (e .header)) (drop (e .position .0 + headerWidth) ws))
 
 abbrev pub PlacesAreTheList : Type 0
 PlacesAreTheList = (sync : ℕ) (ws : List ℕ) → Places sync ws
