@@ -5,3 +5,4 @@ pub mod Resync
 pub mod Outside
 pub mod Hidden
 pub mod Written
+pub mod Examples
