@@ -37,6 +37,13 @@ healthPlaces ws = packetPlaces (length ws / 32) 0
 unfoldable pub soundOf : List ℕ → ℕ → ℕ → Bool
 soundOf ws t p = eqb (packetType (take 32 (drop p ws))) t && soundPacket (take 32 (drop p ws))
 
+-- the place p was found; none was
+abbrev pub foundAt : ℕ → Sought
+foundAt p = At (record { 0 = p })
+
+abbrev pub nowhere : Sought
+nowhere = Nowhere
+
 -- the later of two, where it is there
 abbrev pub later : Sought → Sought → Sought
 later (At p) s = At p
@@ -44,5 +51,5 @@ later Nowhere s = s
 
 -- the last of these places where the test holds
 unfoldable pub lastWhere : (ℕ → Bool) → List ℕ → Sought
-lastWhere holds [] = Nowhere
-lastWhere holds (p ∷ ps) = later (lastWhere holds ps) (cond (holds p) (At (record { 0 = p })) Nowhere)
+lastWhere holds [] = nowhere
+lastWhere holds (p ∷ ps) = later (lastWhere holds ps) (cond (holds p) (foundAt p) nowhere)

@@ -12,7 +12,7 @@ ghost use Rattle.base.specs.Refusal.{verdict};
 ghost use Rattle.health_last.specs.Last.{argumentCauses, refused, shown, lastPlaceReply, lastPacketReply};
 
 // The place of a packet that was looked for.
-pub enum Sought {
+enum Sought {
     At(Words),
     Nowhere,
 }
