@@ -4,6 +4,7 @@ use mathlib.Core.Path.{_≡_}
 use mathlib.Core.Bool.{true}
 use mathlib.Core.List.{List}
 use lib.ListN.{length, take}
+use Rattle.base.specs.Size.{packetWidth}
 use Rattle.health.specs.Packet.{packetType, packetTime, packetWords, soundPacket}
 use Rattle.health.specs.Reading.{packetOf, readReply}
 use Rattle.health.specs.Writing.{packetFrom, writeReply, writeRoom}
@@ -14,7 +15,7 @@ Accepted t ws room = writeReply t (length ws) (length room) .refusal ≡ 0
 
 -- what it leaves in the room then: the packet of the type t, the time s and these words
 abbrev pub written : ℕ → ℕ → List ℕ → List ℕ → List ℕ
-written t s ws room = take 32 (writeRoom t s ws room)
+written t s ws room = take packetWidth (writeRoom t s ws room)
 
 -- a written packet is read with its type, time and words
 abbrev pub WrittenIsRead : Type 0
