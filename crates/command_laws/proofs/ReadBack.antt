@@ -15,7 +15,8 @@ use Rattle.base.proofs.Refused.{spared, answer-yes}
 use Rattle.crc.specs.Crc.{crcStart, crcBytes}
 use Rattle.command.specs.declared.Fields.{Fields}
 use Rattle.command.specs.Layout.{widths, headOf, laid, readOff, word, bytesOf, numberAt, bodyBytes, commandBytes, fieldsIn, furtherIn}
-use Rattle.command.specs.Asking.{askedWrong, firstCauses, lastCauses}
+use Rattle.command_catalogue.specs.Rules.{askedWrong}
+use Rattle.command.specs.Asking.{firstCauses, lastCauses}
 use Rattle.command.proofs.Verdicts.{verdict-front}
 use Rattle.command_reading.specs.Reading.{headerWrong, crcWrong, readCauses, command, given, readReply, furtherReply}
 use Rattle.command_writing.specs.Writing.{countWrong, askCauses, writeReply, writeRoom}

@@ -13,7 +13,8 @@ use Rattle.base.specs.Refusal.{verdict}
 use Rattle.base.proofs.Refused.{Spared, spared}
 use Rattle.crc.specs.Crc.{crcStart, crcBytes}
 use Rattle.command.specs.Layout.{widths, headOf, laid, readOff, word, bytesOf, numberAt, bodyBytes, commandBytes, field, fieldsIn, furtherIn}
-use Rattle.command.specs.Asking.{askedWrong, firstCauses}
+use Rattle.command_catalogue.specs.Rules.{askedWrong}
+use Rattle.command.specs.Asking.{firstCauses}
 use Rattle.command.proofs.Verdicts.{verdict-front, total-within}
 use Rattle.command_reading.specs.Reading.{packetCauses, readCauses}
 use Rattle.command_writing.specs.Writing.{askCauses}

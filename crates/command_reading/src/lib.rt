@@ -8,11 +8,14 @@ use command::LEAST;
 use command::SEQUENCE_COUNTS;
 use command::SEQUENCE_TOP;
 use command::word_at;
+use command_catalogue::asked_wrong;
 use command_catalogue::judge;
 ghost use mathlib.Core.Path.{_≡_};
+ghost use mathlib.Core.Bool.{false};
 ghost use Prim.Native.Nat.{_≤_};
 ghost use lib.ListN.{length};
 ghost use Rattle.base.specs.Refusal.{verdict};
+ghost use Rattle.command_catalogue.specs.Rules.{askedWrong};
 ghost use Rattle.command_reading.specs.Reading.{headerWrong, packetCauses, given, readReply, furtherReply};
 
 // The reader's reply: the fields and the number of further bytes.
@@ -56,9 +59,9 @@ fn header_wrong(bytes: &[u8]) -> bool
         & (size == bytes.len() - 7))
 }
 
-// The verdict on a packet of a permitted length: its header, its CRC, then its fields and further bytes.
+// The verdict on a packet of a permitted length, in a catalogue and a mode that there are: its header, its CRC, then its fields and further bytes.
 fn inspect(catalogue: u8, mode: u8, fields: Fields, bytes: &[u8]) -> u8
-    requires { ⌜ (14 ≤ length (now bytes)) × (length (now bytes) ≤ 227) ⌝ }
+    requires { ⌜ (askedWrong catalogue mode ≡ false) × (14 ≤ length (now bytes)) × (length (now bytes) ≤ 227) ⌝ }
     ensures { λ r. ⌜ r ≡ verdict (packetCauses catalogue mode fields (now (bytes .entry))) ⌝ }
 {
     let end = bytes.len() - 2;
@@ -85,7 +88,7 @@ pub fn read(catalogue: u8, mode: u8, bytes: &[u8]) -> Command
 {
     let fields = command::fields_in(bytes);
     let n = bytes.len();
-    let refused = command::first(command::asked_wrong(catalogue, mode), catalogue, Bytes(n));
+    let refused = command::first(asked_wrong(catalogue, mode), catalogue, Bytes(n));
     if refused != 0 {
         return give(refused, fields, 0);
     }

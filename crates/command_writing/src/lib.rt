@@ -8,6 +8,7 @@ use command::ID;
 use command::LEAST;
 use command::SEQUENCE_COUNTS;
 use command::SEQUENCE_TOP;
+use command_catalogue::asked_wrong;
 use command_catalogue::judge;
 ghost use mathlib.Core.Path.{_≡_};
 ghost use Prim.Native.Nat.{_+_, _≤_, _<_};
@@ -43,7 +44,7 @@ fn plan(catalogue: u8, mode: u8, fields: Fields, further: &[u8], room: usize) ->
 {
     let total = LEAST + further.len();
     let count = fields.sequence < SEQUENCE_COUNTS;
-    let asked = command::asked_wrong(catalogue, mode) | !count;
+    let asked = asked_wrong(catalogue, mode) | !count;
     let refused = command::first(asked, catalogue, Bytes(total));
     if refused != 0 {
         return settle(refused, 0);
