@@ -88,7 +88,7 @@ module _ (c m : ℕ) (bs : List ℕ) where
   -- ---- what the reply's number says, for the further bytes
 
   module _ {r : Command} (e : r ≡ readReply c m bs) where
-    reply-number : r .refusal ≡ verdict (readCauses c m bs)
+    pub reply-number : r .refusal ≡ verdict (readCauses c m bs)
     unfolding readReply
     reply-number = ap (λ (x : Command). x .refusal) e ∙ given-refusal _ _ _
 
