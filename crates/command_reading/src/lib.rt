@@ -26,14 +26,14 @@ pub struct Command {
 }
 
 // The reply where a verdict is found.
-fn give(verdict: u8, fields: Fields, further: usize) -> Command
-    ensures { λ r. ⌜ r ≡ given «verdict» fields further ⌝ }
+fn give(verdict: u8, fields: Fields, further: Bytes) -> Command
+    ensures { λ r. ⌜ r ≡ given «verdict» fields (further .0) ⌝ }
 {
     if verdict == 0 {
         return Command {
             refusal: 0,
             fields,
-            further: Bytes(further),
+            further,
         };
     }
     Command {
@@ -64,6 +64,7 @@ fn inspect(catalogue: u8, mode: u8, fields: Fields, bytes: &[u8]) -> u8
     requires { ⌜ (askedWrong catalogue mode ≡ false) × (14 ≤ length (now bytes)) × (length (now bytes) ≤ 227) ⌝ }
     ensures { λ r. ⌜ r ≡ verdict (packetCauses catalogue mode fields (now (bytes .entry))) ⌝ }
 {
+    let start = HEAD.0;
     let end = bytes.len() - 2;
     let crc = crc::bytes(crc::START, &bytes[..end]);
     let others = judge(
@@ -73,7 +74,7 @@ fn inspect(catalogue: u8, mode: u8, fields: Fields, bytes: &[u8]) -> u8
         fields.qualifier,
         fields.address,
         fields.data,
-        &bytes[HEAD..end],
+        &bytes[start..end],
     );
     refusal::cause(
         refusal::COMMAND_HEADER,
@@ -90,9 +91,10 @@ pub fn read(catalogue: u8, mode: u8, bytes: &[u8]) -> Command
     let n = bytes.len();
     let refused = command::first(asked_wrong(catalogue, mode), catalogue, Bytes(n));
     if refused != 0 {
-        return give(refused, fields, 0);
+        return give(refused, fields, Bytes(0));
     }
-    give(inspect(catalogue, mode, fields, bytes), fields, n - LEAST)
+    let more = n - LEAST.0;
+    give(inspect(catalogue, mode, fields, bytes), fields, Bytes(more))
 }
 
 // The further bytes of a command, as a part of its bytes; none where `read` refuses, which has the number.
@@ -103,6 +105,7 @@ pub fn further(catalogue: u8, mode: u8, bytes: &[u8]) -> &[u8]
     if reply.refusal != 0 {
         return &bytes[..0];
     }
+    let first = HEAD.0;
     let last = bytes.len() - 2;
-    &bytes[HEAD..last]
+    &bytes[first..last]
 }
