@@ -28,7 +28,7 @@ fn frame_there(words: &[u16], sync: u16, at: usize) -> Piece
         complete: shape::closes(&from[end..], sync, camera),
         length: Words(reach.length),
     };
-    Piece::Whole(Words(at), frame, Words(at + end))
+    Piece::Frame(Words(at), frame, Words(at + end))
 }
 
 // The next frame or stray from a place on, where no frame is in hand: health chunks are passed. Going on from the place that it gives, a

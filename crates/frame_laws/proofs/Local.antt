@@ -29,8 +29,8 @@ use Rattle.frame.specs.Pieces.{framesAndStrays}
 use Rattle.frame.proofs.Joining.{joining-one, listedFrom}
 use Rattle.frame.proofs.Chunks.{payload-length}
 use Rattle.frame.proofs.Walking.{first-and-ahead, frame-ends-inside}
+use Rattle.frame.proofs.Stepping.{pick, pieces-one}
 use Rattle.frame_laws.specs.Local.{EndToEnd, Local, NoneEnds, StrayAfterGap}
-use Rattle.frame_laws.proofs.Pieces.{pick, pieces-one}
 
 -- ---- the chunks that join
 

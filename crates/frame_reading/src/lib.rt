@@ -54,7 +54,7 @@ pub fn at(recording: &[u16], sync: u16, place: Words) -> Frame
     let from = place.0;
     let piece = pieces::next(&recording[from..], sync, Words(0));
     match piece {
-        Piece::Whole(_, frame, _) => frame,
+        Piece::Frame(_, frame, _) => frame,
         Piece::Stray(_, _) => refused(refusal::NOTHING_THERE),
         Piece::End => refused(refusal::NOTHING_THERE),
     }

@@ -81,7 +81,7 @@ returns : tie.Need-returns
 returns c =
     let m = c .before .before .before .before in
     let a = s m .args in
-    ap₂ (λ (f : Frame) (n : ℕ). Piece.Whole (record { 0 = a .at }) f (record { 0 = a .at + n }))
+    ap₂ (λ (f : Frame) (n : ℕ). Piece.Frame (record { 0 = a .at }) f (record { 0 = a .at + n }))
     (described-by-reach (a .sync) (part (s m)) (starts-there (s m)) _ _ _ (m .measure .ensures) (c .before .before .camera-of .ensures) (c .closes .ensures)
     ∙ ap (described (a .sync)) (to-end (a .at) (ws (s m))))
     (end-there m ∙ ap (frameWords (a .sync)) (to-end (a .at) (ws (s m))))

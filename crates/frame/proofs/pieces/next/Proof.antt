@@ -8,7 +8,7 @@ use Rattle.chunk.specs.declared.Entry.{Entry}
 use Rattle.chunk.proofs.Steps.{Next, stepped, past}
 use Rattle.frame.specs.declared.Piece.{Piece}
 use Rattle.frame.specs.Pieces.{nextPiece}
-use Rattle.frame.proofs.pieces.Stepping.{no-piece, health-passed, frame-next, stray-next, frame-starts}
+use Rattle.frame.proofs.Stepping.{no-piece, health-passed, frame-next, stray-next, frame-starts}
 use Rattle.frame.proofs.pieces.next.Statement.{statement}
 use Rattle.frame.proofs.pieces.next.Tie as tie
 
@@ -51,7 +51,7 @@ returns c =
     let i = c .before .before .before in
     let k = i .before .before in
     c .frame-there .ensures
-    ∙ sym (frame-next (a k .args .sync) (a k .args .words .now) (l k .loop .at) (e k) (q k) (step k) (sym (i .before .kind-of .ensures) ∙ i .if1 .taken) (sym (c .before .before .starts .ensures) ∙ c .before .if2 .taken))
+    ∙ sym (frame-next (a k .args .sync) (a k .args .words .now) (l k .loop .at) (e k) (q k) (step k) (sym (c .before .before .starts .ensures) ∙ c .before .if2 .taken))
     ∙ l k .loop .inv
 
 returns-2 : tie.Need-returns-2 Inv-loop μ-loop
