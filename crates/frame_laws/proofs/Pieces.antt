@@ -6,11 +6,10 @@ use mathlib.Core.List.{List, [], _∷_}
 use Prim.Native.Nat.{ℕ, zero, suc, _+_, _≤_}
 use native.Mathlib.Omega.{arith}
 use lib.ListN.{length, getD, drop}
-use native.Mathlib.Nat.{add-assoc}
 use native.Mathlib.Numerals.{add-one}
 use lib.Seq.{drop-drop, getD-drop}
 use lib.Dec.{eqb}
-use borrow.Author.Tests.{eq-eqb, ne-eqb, eqb-true, eqb-false}
+use borrow.Author.Tests.{eqb-true, eqb-false}
 use Rattle.base.proofs.Booleans.{and-left, and-right}
 use Rattle.chunk.specs.declared.Entry.{Entry}
 use Rattle.chunk.specs.declared.Found.{Found}
@@ -28,6 +27,7 @@ use Rattle.frame.proofs.Joining.{joining-one, listedFrom, AfterJoined, after-jo
 use Rattle.frame.proofs.Walking.{ahead, first-and-ahead}
 use Rattle.frame.proofs.Stepping.{pieces-one, continuation, none-left, no-piece, pieces-past-health, health-passed, pieces-at-frame, frame-next, pieces-at-stray, stray-next, frame-starts}
 use Rattle.frame_laws.specs.Pieces.{Says, PiecesSaid}
+use Rattle.frame_laws.proofs.Moved.{joining-moved, words-moved}
 
 -- a chunk that joins no frame in hand is as it is where none is in hand
 alone : (end : ℕ) (all : Bool) (e : Entry) (es : List Entry) → all && eqb (e .position .0) end && continues (e .header) ≡ false
@@ -60,38 +60,6 @@ passed end all (e ∷ es) = by-join (all && eqb (e .position .0) end && continue
     by-join false j more =
         alone end all e es j
         ∙ ap (λ (js : List Entry). framesAndStrays 0 false (drop (length js) (e ∷ es))) (sym (joining-one end all e es false j))
-
--- ---- positions counted from another place
-
-joining-moved : (n end : ℕ) (all : Bool) (es : List Entry) → joining (n + end) all (moved n es) ≡ moved n (joining end all es)
-unfolding joining
-joining-moved n end all [] = refl
-joining-moved n end all (e ∷ es) = by-join (all && eqb (e .position .0) end && continues (e .header)) refl (λ a. joining-moved n (end + span (e .header)) a es)
-  where
-    shifted : eqb (n + e .position .0) (n + end) ≡ eqb (e .position .0) end
-    shifted = by-place (eqb (e .position .0) end) refl
-      where
-        by-place : (b : Bool) → eqb (e .position .0) end ≡ b → eqb (n + e .position .0) (n + end) ≡ b
-        by-place true q = eq-eqb (n + e .position .0) (n + end) (ap (λ (m : ℕ). n + m) (eqb-true (e .position .0) end q))
-        by-place false q = ne-eqb (n + e .position .0) (n + end) (λ z. eqb-false (e .position .0) end q (omega arith))
-
-    by-join : (b : Bool) → all && eqb (e .position .0) end && continues (e .header) ≡ b
-        → ((a : Bool) → joining (n + (end + span (e .header))) a (moved n es) ≡ moved n (joining (end + span (e .header)) a es))
-        → joining (n + end) all (moved n (e ∷ es)) ≡ moved n (joining end all (e ∷ es))
-    by-join true j more =
-        let f : Entry = entry (n + e .position .0) (e .header) in
-        joining-one (n + end) all f (moved n es) true (ap (λ (b : Bool). all && b && continues (e .header)) shifted ∙ j)
-        ∙ ap (λ (m : ℕ). f ∷ joining m (whole (e .header)) (moved n es)) (add-assoc n end (span (e .header)))
-        ∙ ap (λ (l : List Entry). f ∷ l) (more (whole (e .header)))
-        ∙ ap (moved n) (sym (joining-one end all e es true j))
-    by-join false j more =
-        joining-one (n + end) all (entry (n + e .position .0) (e .header)) (moved n es) false (ap (λ (b : Bool). all && b && continues (e .header)) shifted ∙ j)
-        ∙ ap (moved n) (sym (joining-one end all e es false j))
-
-words-moved : (n : ℕ) (es : List Entry) → listedWords (moved n es) ≡ listedWords es
-unfolding listedWords
-words-moved n [] = refl
-words-moved n (e ∷ es) = ap (λ (m : ℕ). span (e .header) + m) (words-moved n es)
 
 -- ---- the next piece
 
