@@ -4,7 +4,6 @@ use Prim.Native.Nat.{ℕ}
 use mathlib.Core.List.{List, []}
 use lib.ListN.{length}
 use denote.Ref.{now}
-use Rattle.base.specs.Refusal.{verdict}
 use Rattle.command_catalogue.specs.Rules.{fieldCauses}
 use Rattle.command.specs.Layout as layout
 use Rattle.command.specs.Asking as asking

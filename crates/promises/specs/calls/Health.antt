@@ -5,7 +5,7 @@ use mathlib.Core.List.{List, []}
 use lib.ListN.{length, take, drop}
 use denote.Ref.{now}
 use Rattle.base.specs.declared.Written.{Written}
-use Rattle.base.specs.Refusal.{verdict, wrote}
+use Rattle.base.specs.Refusal.{wrote}
 use Rattle.health.specs.Packet.{soundPacket}
 use Rattle.health.specs.Reading.{judgeCauses, readCauses, readReply, refused as readRefused}
 use Rattle.health.specs.Writing.{writeCauses, writeReply, writeRoom}
