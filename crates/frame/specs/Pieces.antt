@@ -34,9 +34,9 @@ framesAndStrays end all (e ∷ es) =
 abbrev pub piecesOf : ℕ → List ℕ → List Entry
 piecesOf sync ws = framesAndStrays 0 false (reading sync ws)
 
--- The frames and strays of the reading that begins at the place p, which knows nothing of the words before it: no chunk and no frame is in hand there.
--- So where p lies inside a chunk, a header that stands in its payload counts, if it is confirmed; and where p lies inside a frame, those of the frame's
--- continuations that begin there or later are stray. At the end of a frame, at the end of a stray and at 0 they are the recording's own from there on.
+-- The frames and strays of the reading that begins at the place p. It knows nothing of the words before p: no chunk and no frame is in hand there. So where
+-- p lies inside a chunk, a header counts that is confirmed in its payload; and where p lies inside a frame, a continuation of it that is listed from p on
+-- joins nothing, and is stray. From 0, from the end of a frame and from the end of a stray on they are the recording's own; that is a law of `frame_laws`.
 abbrev pub piecesFrom : ℕ → List ℕ → ℕ → List Entry
 piecesFrom sync ws p = framesAndStrays 0 false (listed sync p 0 (drop p ws))
 

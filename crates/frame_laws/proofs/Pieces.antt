@@ -16,7 +16,7 @@ use Rattle.chunk.specs.declared.Found.{Found}
 use Rattle.chunk.specs.declared.Found.the-variants.{Chunk, End}
 use Rattle.chunk.specs.Header.{size, kind, span}
 use Rattle.chunk.specs.Reading.{entry, listed, nextFrom, listedWords}
-use Rattle.chunk.proofs.Steps.{past, Next, stepped, ended, found-end}
+use Rattle.chunk.proofs.Steps.{past, Next, stepped, found-end}
 use Rattle.chunk_laws.specs.Resync.{moved}
 use Rattle.chunk_laws.proofs.ByPlace.{listed-moved}
 use Rattle.frame.specs.declared.Piece.{Piece}
@@ -156,5 +156,5 @@ module _ (sync : ℕ) (ws : List ℕ) where
   says-within zero p h = at-end p (found-end sync ws p (omega arith))
   says-within (suc k) p h = by-found k p h (λ q. says-within k q) (nextFrom sync ws p) refl
 
-pub says : PiecesSaid
-says sync ws p = says-within sync ws (length ws) p (omega arith)
+pub pieces-said : PiecesSaid
+pieces-said = record { start = λ sync ws. refl; says = λ sync ws p. says-within sync ws (length ws) p (omega arith) }

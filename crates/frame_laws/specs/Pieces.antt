@@ -9,7 +9,7 @@ use Rattle.chunk.specs.Reading.{entry}
 use Rattle.frame.specs.declared.Piece.{Piece}
 use Rattle.frame.specs.Shape.{starts, continues}
 use Rattle.frame.specs.Described.{described}
-use Rattle.frame.specs.Pieces.{piecesFrom, nextPiece, pieceNumber, piecePlace, pieceFrame, pieceEnd}
+use Rattle.frame.specs.Pieces.{piecesOf, piecesFrom, nextPiece, pieceNumber, piecePlace, pieceFrame, pieceEnd}
 
 -- What a piece x says of the frames and strays from the place p on, by its number.
 pub record Says (sync : ℕ) (ws : List ℕ) (p : ℕ) (x : Piece) : Type 0 where
@@ -22,6 +22,9 @@ pub record Says (sync : ℕ) (ws : List ℕ) (p : ℕ) (x : Piece) : Type 0 wher
   -- 2: the chunk there is a continuation
   pub isStray : pieceNumber x ≡ 2 → continues (getD ws (suc (piecePlace x)) 0) ≡ true
 
--- so says the next piece, from every place of all words
-abbrev pub PiecesSaid : Type 0
-PiecesSaid = (sync : ℕ) (ws : List ℕ) (p : ℕ) → Says sync ws p (nextPiece sync ws p)
+-- Going through a recording.
+pub record PiecesSaid : Type 0 where
+  -- from 0 on they are the recording's frames and strays
+  pub start : (sync : ℕ) (ws : List ℕ) → piecesFrom sync ws 0 ≡ piecesOf sync ws
+  -- and from every place on the next piece says what the first of them is, and where the others begin
+  pub says : (sync : ℕ) (ws : List ℕ) (p : ℕ) → Says sync ws p (nextPiece sync ws p)

@@ -7,7 +7,7 @@ use native.Mathlib.Omega.{arith}
 use lib.ListN.{length, take, drop, getD, length-drop}
 use lib.Seq.{getD-drop}
 use lib.Dec.{ltb, eqb}
-use borrow.Author.Tests.{not-false, eqb-true, ltb-true, lt-ltb, le-ltb, ltb-false}
+use borrow.Author.Tests.{not-false, eqb-true, lt-ltb, le-ltb, ltb-false}
 use Rattle.base.proofs.Booleans.{and-left, and-right}
 use Rattle.base_room.proofs.RoomLaws.{to-end}
 use Rattle.base.specs.Refusal.{Causes, verdict, answer, wrongLength, nothingThere, frameCut, wrongParity, noRoom}

@@ -1,11 +1,11 @@
 -- `frame::pieces::next` meets its contract: from `at` on the next piece is the one that is asked for.
 use mathlib.Core.Path.{_≡_, refl, sym, ap, _∙_}
-use Prim.Native.Nat.{ℕ, _+_, _-_}
+use Prim.Native.Nat.{ℕ, _-_}
 use native.Mathlib.Omega.{arith}
 use lib.ListN.{length}
 use borrow.Author.Needs.{needs}
 use Rattle.chunk.specs.declared.Entry.{Entry}
-use Rattle.chunk.proofs.Steps.{Next, stepped, past}
+use Rattle.chunk.proofs.Steps.{Next, stepped}
 use Rattle.frame.specs.declared.Piece.{Piece}
 use Rattle.frame.specs.Pieces.{nextPiece}
 use Rattle.frame.proofs.Stepping.{no-piece, health-passed, frame-next, stray-next, frame-starts}
@@ -48,8 +48,7 @@ frame-there-requires c κs =
 
 returns : tie.Need-returns Inv-loop μ-loop
 returns c =
-    let i = c .before .before .before in
-    let k = i .before .before .before in
+    let k = c .before .before .before .before .before .before in
     c .frame-there .ensures
     ∙ sym (frame-next (a k .args .sync) (a k .args .words .now) (l k .loop .at) (e k) (q k) (step k) (sym (c .before .before .starts .ensures) ∙ c .before .if2 .taken))
     ∙ l k .loop .inv
