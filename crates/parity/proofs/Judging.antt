@@ -24,8 +24,8 @@ between a b n e = by-tests (leb a n) (leb n b) refl refl e
   where
     by-tests : (s t : Bool) → leb a n ≡ s → leb n b ≡ t → not (s && t) ≡ false → (a ≤ n) × (n ≤ b)
     by-tests true true p q h = (leb-true a n p, leb-true n b q)
-    by-tests true false p q h = let z : _≡_ {A = ℕ} 0 1 = cc in absurd (omega arith)
-    by-tests false t p q h = let z : _≡_ {A = ℕ} 0 1 = cc in absurd (omega arith)
+    by-tests true false p q h = absurd (false≢true (sym h))
+    by-tests false t p q h = absurd (false≢true (sym h))
 
 -- and one outside them
 pub outside : (a b n : ℕ) → not (leb a n && leb n b) ≡ true → (n < a) ⊎ (b < n)

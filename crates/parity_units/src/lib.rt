@@ -95,6 +95,7 @@ fn outcome_of(unit: Judged) -> u8
 
 fn one_if(test: bool) -> usize
     ensures { λ r. ⌜ r ≡ cond test 1 0 ⌝ }
+    ensures { λ r. ⌜ r ≤ 1 ⌝ }
 {
     if test { 1 } else { 0 }
 }

@@ -35,32 +35,23 @@ module _ (c : tie.After-outcome-of Inv-loop μ-loop) where
   abbrev payload : List ℕ
   payload = l .before .before .args .payload .now
 
-  counted : (k n i : ℕ) → Counted payload (l .loop .at) k n → i ≡ cond (eqb (c .outcome-of .result) k) 1 0
-      → (i ≤ 1) × Counted payload (e .unit-end .result .0) k (n + i)
+  counted : (k n i : ℕ) → Counted payload (l .loop .at) k n → (i ≡ cond (eqb (c .outcome-of .result) k) 1 0) × (i ≤ 1)
+      → Counted payload (e .unit-end .result .0) k (n + i)
   counted k n i q t =
       unit-counted payload (l .loop .at) k n q _ (e .before .loop-test .taken) (e .unit-end .ensures) (c .outcome-of .result)
-      (c .outcome-of .ensures ∙ ap outcomeOf (c .before .judge-unit .ensures)) i t
+      (c .outcome-of .ensures ∙ ap outcomeOf (c .before .judge-unit .ensures)) i (t .0) (t .1)
 
 add-sound : tie.Need-add-sound Inv-loop μ-loop
-add-sound c = let k = l (c .before) .loop .inv .1 in omega (arith, k .few, counted (c .before) 0 _ _ k (c .one-if .ensures) .0)
+add-sound c = omega (arith, l (c .before) .loop .inv .1 .few, c .one-if .ensures .1)
 
 add-hit : tie.Need-add-hit Inv-loop μ-loop
-add-hit c =
-    let t = c .before .before in
-    let k = l t .loop .inv .2 in
-    omega (arith, k .few, counted t 1 _ _ k (c .one-if2 .ensures) .0)
+add-hit c = omega (arith, l (c .before .before) .loop .inv .2 .few, c .one-if2 .ensures .1)
 
 add-repaired : tie.Need-add-repaired Inv-loop μ-loop
-add-repaired c =
-    let t = c .before .before .before in
-    let k = l t .loop .inv .3 in
-    omega (arith, k .few, counted t 2 _ _ k (c .one-if3 .ensures) .0)
+add-repaired c = omega (arith, l (c .before .before .before) .loop .inv .3 .few, c .one-if3 .ensures .1)
 
 add-refused : tie.Need-add-refused Inv-loop μ-loop
-add-refused c =
-    let t = c .before .before .before .before in
-    let k = l t .loop .inv .4 in
-    omega (arith, k .few, counted t 3 _ _ k (c .one-if4 .ensures) .0)
+add-refused c = omega (arith, l (c .before .before .before .before) .loop .inv .4 .few, c .one-if4 .ensures .1)
 
 loop-less : tie.Need-loop-less Inv-loop μ-loop
 loop-less c =
@@ -72,10 +63,10 @@ loop-again c =
     let t = c .before .before .before .before in
     let i = l t .loop .inv in (
       omega (arith, e t .before .loop-test .taken, e t .unit-end .ensures),
-      counted t 0 _ _ (i .1) (c .before .before .before .one-if .ensures) .1,
-      counted t 1 _ _ (i .2) (c .before .before .one-if2 .ensures) .1,
-      counted t 2 _ _ (i .3) (c .before .one-if3 .ensures) .1,
-      counted t 3 _ _ (i .4) (c .one-if4 .ensures) .1,
+      counted t 0 _ _ (i .1) (c .before .before .before .one-if .ensures),
+      counted t 1 _ _ (i .2) (c .before .before .one-if2 .ensures),
+      counted t 2 _ _ (i .3) (c .before .one-if3 .ensures),
+      counted t 3 _ _ (i .4) (c .one-if4 .ensures),
     )
 
 returns : tie.Need-returns Inv-loop μ-loop

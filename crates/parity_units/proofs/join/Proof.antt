@@ -54,7 +54,7 @@ loop-again c =
     _ (c .before .before .before .check-unit .ensures .1)
 
 sub-t13 : tie.Need-sub-t13 Inv-loop μ-loop
-sub-t13 c = all-joined _ _ _ _ _ _ (c .before .loop .inv) (fits (c .before .before)) (c .loop-test .left) .0
+sub-t13 c = omega (arith, all-joined _ _ _ _ _ _ (c .before .loop .inv) (fits (c .before .before)) (c .loop-test .left) .0)
 
 returns-3 : tie.Need-returns-3 Inv-loop μ-loop
 returns-3 c = let d = all-joined _ _ _ _ _ _ (c .before .loop .inv) (fits (c .before .before)) (c .loop-test .left) in (d .1, d .2)
