@@ -2,6 +2,7 @@
 pub mod limit;
 pub mod number;
 pub mod refusal;
+pub mod size;
 
 // A number of 16-bit words, or a place among them: camera sizes and positions.
 pub struct Words(pub usize);

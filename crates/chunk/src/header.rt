@@ -2,23 +2,21 @@
 use crate::Check;
 use base::Words;
 use base::number;
+use base::size::PACKET;
+use base::size::PARITY;
+use base::size::UNIT;
 ghost use mathlib.Core.Path.{_≡_};
 ghost use lib.ListN.{drop};
 ghost use Rattle.chunk.specs.Header.{size, camera, kind, legalSize, legal, headed, confirmed, checkOf};
 
 // the words of the header
-pub const HEADER: usize = 2;
+pub const HEADER: Words = Words(2);
 
 // the longest payload
-const LONGEST: usize = 8190;
+const LONGEST: Words = Words(8190);
 
-// the words of a whole image unit, and the fewest of a shorter one
-const UNIT: usize = 264;
-
-const LEAST_UNIT: usize = 9;
-
-// the words of a health packet
-const PACKET: usize = 32;
+// the fewest words of a unit: its parity words, and one data word
+const LEAST_UNIT: Words = Words(PARITY.0 + 1);
 
 // The words after the header.
 pub fn size_of(header: u16) -> Words
@@ -45,9 +43,9 @@ pub fn legal_size(kind: u16, size: Words) -> bool
     ensures { λ r. ⌜ r ≡ legalSize kind (size .0) ⌝ }
 {
     let n = size.0;
-    let image = (n % UNIT == 0) | (LEAST_UNIT <= n % UNIT);
-    let health = n % PACKET == 0;
-    (1 <= n) & (n <= LONGEST) & number::either(kind == 0, image, health)
+    let image = (n % UNIT.0 == 0) | (LEAST_UNIT.0 <= n % UNIT.0);
+    let health = n % PACKET.0 == 0;
+    (1 <= n) & (n <= LONGEST.0) & number::either(kind == 0, image, health)
 }
 
 pub fn legal_word(header: u16) -> bool
@@ -61,10 +59,10 @@ pub fn legal_word(header: u16) -> bool
 fn headed_at(words: &[u16], sync: u16, at: usize) -> bool
     ensures { λ r. ⌜ r ≡ headed sync (drop at (now (words .entry))) ⌝ }
 {
-    if words.len() < HEADER {
+    if words.len() < HEADER.0 {
         return false;
     }
-    if words.len() - HEADER < at {
+    if words.len() - HEADER.0 < at {
         return false;
     }
     if words[at] != sync {
@@ -82,7 +80,7 @@ pub fn check(words: &[u16], sync: u16, at: Words) -> Check
         return Check::NotAChunk;
     }
     let size = size_of(words[place + 1]);
-    let end = place + HEADER + size.0;
+    let end = place + HEADER.0 + size.0;
     if end == words.len() {
         return Check::Confirmed;
     }

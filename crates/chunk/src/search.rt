@@ -20,7 +20,7 @@ pub fn next(words: &[u16], sync: u16, from: Words) -> Found
         if let Check::Confirmed = here {
             let second = at + 1;
             let word = base_room::word_at(words, Words(second));
-            let end = at + header::HEADER + header::size_of(word).0;
+            let end = at + header::HEADER.0 + header::size_of(word).0;
             break Found::Chunk(
                 Entry {
                     position: Words(at),

@@ -91,7 +91,7 @@ pub fn payload(recording: &[u16], sync: u16, place: Words) -> &[u16]
     if chunk.refusal != 0 {
         return &recording[..0];
     }
-    let from = begins + header::HEADER;
+    let from = begins + header::HEADER.0;
     let to = from + chunk.size.0;
     &recording[from..to]
 }

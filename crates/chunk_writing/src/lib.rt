@@ -19,7 +19,7 @@ fn plan(kind: u16, camera: u16, payload: &[u16], lent: usize) -> Written
     ensures { λ r. ⌜ r ≡ writeReply kind camera (length (now (payload .entry))) lent ⌝ }
 {
     let size = payload.len();
-    let length = size + header::HEADER;
+    let length = size + header::HEADER.0;
     let verdict = refusal::cause(
         refusal::ARGUMENT,
         !is_writable(kind, camera),

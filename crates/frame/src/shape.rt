@@ -1,5 +1,6 @@
 // The shape of a frame, walked from its first word on: every place here counts from there.
 use base::Words;
+use base::size::UNIT;
 use chunk::Check;
 use chunk::header;
 use chunk::header::HEADER;
@@ -41,12 +42,12 @@ pub fn measure(words: &[u16], sync: u16) -> Reach
 {
     let mut size = header::size_of(words[1]).0;
     let mut chunks = 1;
-    let mut end = HEADER + size;
+    let mut end = HEADER.0 + size;
     let mut length = parity_units::data_words(Words(size)).0;
-    while (size % parity_units::UNIT == 0) & joins(&words[end..], sync) {
+    while (size % UNIT.0 == 0) & joins(&words[end..], sync) {
         size = header::size_of(words[end + 1]).0;
         chunks += 1;
-        end += HEADER + size;
+        end += HEADER.0 + size;
         length += parity_units::data_words(Words(size)).0;
     }
     Reach {
@@ -65,5 +66,5 @@ pub fn closes(words: &[u16], sync: u16, camera: u16) -> bool
     if !(health & observed) {
         return false;
     }
-    confirmed(words, sync) & packet::sound_at(words, Words(HEADER))
+    confirmed(words, sync) & packet::sound_at(words, HEADER)
 }

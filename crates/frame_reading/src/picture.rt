@@ -17,7 +17,7 @@ pub fn damaged(words: &[u16], chunks: usize) -> bool
     let mut left = chunks;
     let mut at = 0;
     while 0 < left {
-        let from = at + header::HEADER;
+        let from = at + header::HEADER.0;
         let to = from + header::size_of(words[at + 1]).0;
         if parity_units::damaged(&words[from..to]) {
             return true;
@@ -38,7 +38,7 @@ pub fn data(words: &[u16], chunks: usize, room: &mut [u16])
     let mut at = 0;
     let mut place = 0;
     while 0 < left {
-        let from = at + header::HEADER;
+        let from = at + header::HEADER.0;
         let to = from + header::size_of(words[at + 1]).0;
         place += parity_units::join(&words[from..to], room, Words(place)).0;
         left -= 1;

@@ -2,15 +2,13 @@
 use base::Words;
 use base::Written;
 use base::refusal;
+use base::size::PACKET;
 ghost use mathlib.Core.Path.{_≡_};
 ghost use lib.ListN.{length, take, drop};
 ghost use Rattle.base.specs.Refusal.{verdict};
 ghost use Rattle.health.specs.Packet.{packetCrc, permittedType, soundPacket};
 ghost use Rattle.health.specs.Reading.{judgeCauses, readCauses, refused, readReply};
 ghost use Rattle.health.specs.Writing.{writableType, writeReply, writeRoom};
-
-// the words of a packet
-pub const SIZE: usize = 32;
 
 // What the packet reader gives of a sound packet: its type word, its time and the 29 words after these.
 pub struct Packet {
@@ -46,7 +44,7 @@ fn packet_crc(packet: &[u16]) -> u16
 pub fn judge(packet: &[u16], odd: bool) -> u8
     ensures { λ r. ⌜ r ≡ verdict (judgeCauses (now (packet .entry)) odd) ⌝ }
 {
-    if packet.len() != SIZE {
+    if packet.len() != PACKET.0 {
         return refusal::LENGTH;
     }
     let right = base_room::word_at(packet, Words(1)) == packet_crc(packet);
@@ -77,13 +75,13 @@ pub fn sound_at(words: &[u16], at: Words) -> bool
 {
     let from = at.0;
     let n = words.len();
-    if n < SIZE {
+    if n < PACKET.0 {
         return false;
     }
-    if n - SIZE < from {
+    if n - PACKET.0 < from {
         return false;
     }
-    let end = from + SIZE;
+    let end = from + PACKET.0;
     is_sound(&words[from..end])
 }
 
@@ -135,10 +133,10 @@ fn plan(packet_type: u16, words: usize, room: usize) -> Written
             refusal::cause(
                 refusal::LENGTH,
                 words != 29,
-                refusal::cause(refusal::ROOM, room < SIZE, 0),
+                refusal::cause(refusal::ROOM, room < PACKET.0, 0),
             ),
         ),
-        Words(SIZE),
+        PACKET,
     )
 }
 

@@ -4,7 +4,7 @@ mod seek;
 use base::Words;
 use base::limit;
 use base::refusal;
-use health::packet;
+use base::size::PACKET;
 ghost use mathlib.Core.Path.{_≡_};
 ghost use Prim.Native.Nat.{_+_, _≤_};
 ghost use lib.ListN.{length, take, drop};
@@ -30,7 +30,7 @@ fn judge(science: &[u16], health: &[u16], packet_type: u16) -> u8
 {
     let asked = (1 <= packet_type) & (packet_type <= 15);
     let words = health.len();
-    let packets = (words % packet::SIZE == 0) & (words <= limit::HEALTH_RECORDING);
+    let packets = (words % PACKET.0 == 0) & (words <= limit::HEALTH_RECORDING.0);
     refusal::cause(
         refusal::ARGUMENT,
         !asked,
@@ -78,7 +78,7 @@ pub fn last_place(science: &[u16], sync: u16, health: &[u16], packet_type: u16) 
         return refused(verdict);
     }
     let in_science = seek::in_science(science, sync, packet_type);
-    let in_health = seek::in_row(health, packet_type, 0, health.len() / packet::SIZE);
+    let in_health = seek::in_row(health, packet_type, 0, health.len() / PACKET.0);
     let place = choose(in_science, in_health);
     if place.recording == 0 {
         return refused(refusal::NOTHING_THERE);
@@ -91,7 +91,7 @@ fn packet_at(words: &[u16], from: usize) -> &[u16]
     requires { ⌜ from + 32 ≤ length (now words) ⌝ }
     ensures { λ r. ⌜ now r ≡ take 32 (drop from (now (words .entry))) ⌝ }
 {
-    let end = from + packet::SIZE;
+    let end = from + PACKET.0;
     &words[from..end]
 }
 

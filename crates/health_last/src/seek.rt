@@ -1,6 +1,7 @@
 // The search for a packet, in a row of packets, in a chunk and in a science recording.
 use crate::Sought;
 use base::Words;
+use base::size::PACKET;
 use chunk::Found;
 use chunk::header;
 use chunk::search;
@@ -31,7 +32,7 @@ pub fn in_row(words: &[u16], packet_type: u16, from: usize, count: usize) -> Sou
     let mut left = count;
     while 0 < left {
         left -= 1;
-        let at = from + packet::SIZE * left;
+        let at = from + PACKET.0 * left;
         if is_of(words, packet_type, at) {
             return Sought::At(Words(at));
         }
@@ -50,8 +51,8 @@ fn in_chunk(words: &[u16], packet_type: u16, position: usize, header: u16) -> So
     in_row(
         words,
         packet_type,
-        position + header::HEADER,
-        header::size_of(header).0 / packet::SIZE,
+        position + header::HEADER.0,
+        header::size_of(header).0 / PACKET.0,
     )
 }
 

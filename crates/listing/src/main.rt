@@ -13,7 +13,7 @@ ghost use Prim.Native.Nat.{_≤_};
 ghost use lib.ListN.{length};
 
 // the sync word, and a recording at the limit
-const WORDS: usize = 1 + limit::LISTING_RECORDING;
+const WORDS: usize = 1 + limit::LISTING_RECORDING.0;
 
 // room for these, and one byte more by which a longer input shows
 const ROOM: usize = 2 * WORDS + 1;
@@ -33,7 +33,7 @@ fn list(out: Out, page: &mut [u8; PAGE], words: &[u16]) -> Out
 // The answer to an input.
 fn answer(out: Out, page: &mut [u8; PAGE], bytes: &[u8]) -> Out {
     let mut words = [0u16; WORDS];
-    let reply = program_input::words(bytes, Words(limit::LISTING_RECORDING), &mut words);
+    let reply = program_input::words(bytes, limit::LISTING_RECORDING, &mut words);
     if reply.refusal != 0 {
         return lines::refused(out, page, reply.refusal);
     }

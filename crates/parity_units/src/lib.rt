@@ -2,6 +2,9 @@
 // that is too short for a unit is refused by the unit judge, and has no data.
 use base::Words;
 use base::refusal;
+use base::size::DATA;
+use base::size::PARITY;
+use base::size::UNIT;
 use parity::Judged;
 ghost use mathlib.Core.Path.{_≡_};
 ghost use mathlib.Core.Bool.{cond};
@@ -9,11 +12,6 @@ ghost use Prim.Native.Nat.{_+_, _-_, _≤_, min};
 ghost use lib.ListN.{length};
 ghost use Rattle.parity_units.specs.Split.{unitsIn, anyDamaged, dataWordsIn};
 ghost use Rattle.parity_units.specs.Replies.{joinReply, joinRoom, outcomeOf, outcomes};
-
-// the words of a whole unit, and its parity words
-pub const UNIT: usize = 264;
-
-const PARITY: usize = 8;
 
 // How many units there are of each outcome.
 pub struct Outcomes {
@@ -27,12 +25,12 @@ pub struct Outcomes {
 pub fn data_words(n: Words) -> Words
     ensures { λ r. ⌜ r .0 ≡ dataWordsIn (n .0) ⌝ }
 {
-    let whole = n.0 / UNIT * (UNIT - PARITY);
-    let last = n.0 % UNIT;
-    if last < PARITY {
+    let whole = n.0 / UNIT.0 * DATA.0;
+    let last = n.0 % UNIT.0;
+    if last < PARITY.0 {
         return Words(whole);
     }
-    Words(whole + (last - PARITY))
+    Words(whole + (last - PARITY.0))
 }
 
 // Where the unit ends that begins at a place of a payload of n words.
@@ -40,7 +38,7 @@ fn unit_end(at: usize, n: usize) -> usize
     requires { ⌜ at ≤ n ⌝ }
     ensures { λ r. ⌜ r ≡ at + min 264 (n - at) ⌝ }
 {
-    if n - at < UNIT { n } else { at + UNIT }
+    if n - at < UNIT.0 { n } else { at + UNIT.0 }
 }
 
 // Whether a unit of the payload is refused with 6.

@@ -15,10 +15,10 @@ ghost use Rattle.reel.specs.Reading.{sameWords};
 fn entry_stands(index: &[u16], at: usize, entry: Entry) -> bool
     ensures { λ r. ⌜ r ≡ sameWords (take entryWidth (drop at (now (index .entry)))) (entryWords entry) ⌝ }
 {
-    if index.len() < layout::ENTRY {
+    if index.len() < layout::ENTRY.0 {
         return false;
     }
-    if index.len() - layout::ENTRY < at {
+    if index.len() - layout::ENTRY.0 < at {
         return false;
     }
     let position = entry.position.0;
@@ -41,6 +41,6 @@ pub fn agrees(recording: &[u16], sync: u16, index: &[u16]) -> bool
             return false;
         }
         from = next.0;
-        at += layout::ENTRY;
+        at += layout::ENTRY.0;
     }
 }

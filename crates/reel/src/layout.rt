@@ -1,18 +1,19 @@
 // The sizes of what stands on a reel, for its reader and its writer.
+use base::Words;
 use base::limit;
 
 // the words of an entry, and of the trailer
-pub const ENTRY: usize = 2;
+pub const ENTRY: Words = Words(2);
 
-pub const TRAILER: usize = 4;
+pub const TRAILER: Words = Words(4);
 
 // the last word of a reel
 pub const EDITION: u16 = 1;
 
 // the shortest chunk: two header words, and an image payload of 9
-const SHORTEST_CHUNK: usize = 11;
+const SHORTEST_CHUNK: Words = Words(11);
 
 // the longest reel: a recording at the limit, all of it in shortest chunks
-pub const MOST: usize = limit::REEL_RECORDING
-    + ENTRY * (limit::REEL_RECORDING / SHORTEST_CHUNK)
-    + TRAILER;
+pub const MOST: Words = Words(
+    limit::REEL_RECORDING.0 + ENTRY.0 * (limit::REEL_RECORDING.0 / SHORTEST_CHUNK.0) + TRAILER.0,
+);

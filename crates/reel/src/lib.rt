@@ -31,10 +31,10 @@ pub fn read(reel: &[u16], sync: u16) -> Reel
     ensures { λ r. ⌜ r ≡ readReply sync (now (reel .entry)) ⌝ }
 {
     let length = reel.len();
-    if length < layout::TRAILER {
+    if length < layout::TRAILER.0 {
         return refused(refusal::LENGTH);
     }
-    if layout::MOST < length {
+    if layout::MOST.0 < length {
         return refused(refusal::LENGTH);
     }
     let trailer = trailer::trailer_of(reel);
@@ -42,10 +42,10 @@ pub fn read(reel: &[u16], sync: u16) -> Reel
         return refused(refusal::REEL);
     }
     let n = trailer::wide(trailer.n);
-    if limit::REEL_RECORDING < n {
+    if limit::REEL_RECORDING.0 < n {
         return refused(refusal::REEL);
     }
-    let end = length - layout::TRAILER;
+    let end = length - layout::TRAILER.0;
     if !index::agrees(&reel[..n], sync, &reel[n..end]) {
         return refused(refusal::REEL);
     }

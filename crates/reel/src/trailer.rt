@@ -41,8 +41,8 @@ pub fn agrees(reel: &[u16], trailer: Trailer) -> bool
     ensures { λ r. ⌜ r ≡ trailerAgrees (now (reel .entry)) ⌝ }
 {
     let n = wide(trailer.n);
-    let end = n + layout::ENTRY * wide(trailer.count);
-    if end + layout::TRAILER != reel.len() {
+    let end = n + layout::ENTRY.0 * wide(trailer.count);
+    if end + layout::TRAILER.0 != reel.len() {
         return false;
     }
     if trailer.edition != layout::EDITION {

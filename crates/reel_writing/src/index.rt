@@ -34,7 +34,7 @@ pub fn write(recording: &[u16], sync: u16, room: &mut [u16]) -> usize
         let Found::Chunk(entry, next) = found else {
             return count;
         };
-        put_entry(entry, room, n + layout::ENTRY * count);
+        put_entry(entry, room, n + layout::ENTRY.0 * count);
         from = next.0;
         count += 1;
     }

@@ -15,7 +15,7 @@ ghost use Rattle.reel_writing.specs.Writing.{writeReply, writeRoom};
 fn plan(recording: &[u16], sync: u16, room: usize) -> Written
     ensures { λ r. ⌜ r ≡ writeReply sync (now (recording .entry)) room ⌝ }
 {
-    if limit::REEL_RECORDING < recording.len() {
+    if limit::REEL_RECORDING.0 < recording.len() {
         return refusal::settle(refusal::LENGTH, Words(0));
     }
     let needed = trailer::reel_words(recording.len(), counting::count(recording, sync).chunks);

@@ -13,7 +13,7 @@ pub fn reel_words(n: usize, count: usize) -> usize
     requires { ⌜ (n ≤ reelLimit) × (count ≤ n) ⌝ }
     ensures { λ r. ⌜ r ≡ reelWords n count ⌝ }
 {
-    n + layout::ENTRY * count + layout::TRAILER
+    n + layout::ENTRY.0 * count + layout::TRAILER.0
 }
 
 // The trailer after a recording of n words and its entries, all of which stand in the room.
@@ -21,7 +21,7 @@ pub fn put_trailer(room: &mut [u16], n: usize, count: usize)
     requires { ⌜ (n ≤ reelLimit) × (count ≤ n) × (reelWords n count ≤ length (now room)) ⌝ }
     ensures { λ _. ⌜ now (room .exit) ≡ put (trailer (take (entryWidth * count) (drop n (now (room .entry)))) count n) (n + entryWidth * count) (now (room .entry)) ⌝ }
 {
-    let at = n + layout::ENTRY * count;
+    let at = n + layout::ENTRY.0 * count;
     base_room::put_words(&[count as u16, n as u16], room, Words(at));
     let covered = at + 2;
     let crc = crc::words(crc::START, &room[n..covered]);

@@ -44,19 +44,19 @@ shared-slice-read-size-of : tie.Need-shared-slice-read-size-of
 shared-slice-read-size-of c = inside (c .before)
 
 add-end : tie.Need-add-end
-add-end c = record { fits = omega (arith, inside (c .before .before)) }
+add-end c = record { fits = omega (arith, inside (c .before .before .before)) }
 
 add-end-2 : tie.Need-add-end-2
-add-end-2 c = record { fits = omega (arith, inside (c .before .before .before)) }
+add-end-2 c = record { fits = omega (arith, inside (c .before .before .before .before)) }
 
 returns-2 : tie.Need-returns-2
-returns-2 c = rw (standing (c .before .before), eq-eqb _ _ (c .if2 .taken))
+returns-2 c = rw (standing (c .before .before .before), eq-eqb _ _ (c .if2 .taken))
 
 returns-3 : tie.Need-returns-3
-returns-3 c = rw (standing (c .before .before .before .before), ne-eqb _ _ (c .before .before .if2 .left), ← c .before .headed-at2 .ensures, c .if3 .taken)
+returns-3 c = rw (standing (c .before .before .before .before .before), ne-eqb _ _ (c .before .before .if2 .left), ← c .before .headed-at2 .ensures, c .if3 .taken)
 
 returns-4 : tie.Need-returns-4
-returns-4 c = rw (standing (c .before .before .before .before), ne-eqb _ _ (c .before .before .if2 .left), ← c .before .headed-at2 .ensures, c .if3 .left)
+returns-4 c = rw (standing (c .before .before .before .before .before), ne-eqb _ _ (c .before .before .if2 .left), ← c .before .headed-at2 .ensures, c .if3 .left)
 
 pub check-spec : {M : Type 1} → statement M
 check-spec =

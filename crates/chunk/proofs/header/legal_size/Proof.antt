@@ -9,4 +9,4 @@ unfolding legalSize
 returns c = rw (c .either .ensures)
 
 pub legal-size-spec : {M : Type 1} → statement M
-legal-size-spec = tie.close (tie.spec (λ c κs. search needs) returns)
+legal-size-spec = tie.close (tie.spec (λ c. search needs) (λ c. search needs) (λ c. search needs) (λ c κs. search needs) returns)

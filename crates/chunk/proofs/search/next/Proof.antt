@@ -49,12 +49,12 @@ word c =
 
 -- the place past it, within the recording
 end : (c : tie.After-size-of Inv-loop μ-loop)
-    → (let l = c .before .before .before .before .before .before in
+    → (let l = c .before .before .before .before .before .before .before in
     let ws = l .before .before .args .words .now in
     let to = l .loop .at + 2 + c .size-of .result .0 in
     (to ≡ l .loop .at + span (getD ws (suc (l .loop .at)) 0)) × (to ≤ length ws))
 end c =
-    let w = c .before in
+    let w = c .before .before in
     let l = w .before .before .before .before .before in
     let a = l .before .before .args in
     let n : c .size-of .result .0 ≡ size (getD (a .words .now) (suc (l .loop .at)) 0) = c .size-of .ensures ∙ ap size (word w) in
@@ -65,7 +65,7 @@ add-end-2 c = record { fits = omega (arith, end (c .before) .1) }
 
 returns-2 : tie.Need-returns-2 Inv-loop μ-loop
 returns-2 c =
-    let w = c .before .before in
+    let w = c .before .before .before in
     let l = w .before .before .before .before .before in
     let a = l .before .before .args in
     ap₂ (λ (h n : ℕ). Found.Chunk (entry (l .loop .at) h) (record { 0 = n })) (word w) (end (c .before) .0)

@@ -41,20 +41,20 @@ returns c =
     (λ z. c .before .if1 .taken (ap (λ (x : Heading). x .refusal) (b .before .at .ensures) ∙ at-number (a .sync) (a .recording .now) (a .place .0) ∙ z))
 
 add-from : tie.Need-add-from
-add-from c = record { fits = omega (arith, inside c) }
+add-from c = record { fits = omega (arith, inside (c .before)) }
 
 add-to : tie.Need-add-to
-add-to c = record { fits = omega (arith, inside (c .before)) }
+add-to c = record { fits = omega (arith, inside (c .before .before)) }
 
 mul-result : tie.Need-mul-result
-mul-result c = record { fits = omega (arith, inside (c .before)) }
+mul-result c = record { fits = omega (arith, inside (c .before .before)) }
 
 part-result-end : tie.Need-part-result-end
-part-result-end c = omega (arith, inside (c .before))
+part-result-end c = omega (arith, inside (c .before .before))
 
 returns-2 : tie.Need-returns-2
 returns-2 c =
-    let e = c .before .before in
+    let e = c .before .before .before in
     let a = e .before .before .before .before .args in
     accepted-payload (a .sync) (a .recording .now) (a .place .0) (accepted e) _ _ refl (ap (λ (n : ℕ). a .place .0 + 2 + n) (sized e))
 

@@ -11,14 +11,14 @@ use Rattle.health.proofs.packet.sound_at.Statement.{statement}
 use Rattle.health.proofs.packet.sound_at.Tie as tie
 
 returns : tie.Need-returns
-returns c = sym (none-there (c .before .before .args .words .now) (c .before .before .args .at .0) (omega arith))
+returns c = sym (none-there (c .before .before .before .args .words .now) (c .before .before .before .args .at .0) (omega arith))
 
 returns-2 : tie.Need-returns-2
-returns-2 c = sym (none-there (c .before .before .before .args .words .now) (c .before .before .before .args .at .0) (omega arith))
+returns-2 c = sym (none-there (c .before .before .before .before .before .args .words .now) (c .before .before .before .before .before .args .at .0) (omega arith))
 
 returns-3 : tie.Need-returns-3
 returns-3 c =
-    let start = c .before .before .before .before .before in
+    let start = c .before .before .before .before .before .before .before .before in
     let n = add-sub-cancel-left (start .args .at .0) 32 in
     c .is-sound .ensures ∙ ap (λ (k : ℕ). soundPacket (take k (drop (start .args .at .0) (start .args .words .now)))) n
 
@@ -27,6 +27,7 @@ sound-at-spec =
     tie.close
     (tie.spec
     returns
+    (λ c. search needs)
     returns-2
     (λ c. search needs)
     (λ c. search needs)
