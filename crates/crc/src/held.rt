@@ -1,5 +1,7 @@
 // A message so far, held as sixteen words that have its register: the polynomial divides x^256 + x^192 + x^80 + 1, so four
 // words are put down again 4, 11 and 16 words later, and division waits until the end.
+use base::Bytes;
+use base::Words;
 use base::number;
 ghost use mathlib.Core.Path.{_≡_};
 ghost use mathlib.Core.List.{[], _∷_};
@@ -23,31 +25,34 @@ fn pack(a: u16, b: u16, c: u16, d: u16) -> u64
 }
 
 // The four words at a place.
-pub fn words_at(message: &[u16], i: usize) -> u64
-    requires { ⌜ i + 4 ≤ length (now message) ⌝ }
-    ensures { λ x. ⌜ lanes x ≡ wordsAt (now (message .entry)) i ⌝ }
+pub fn words_at(message: &[u16], at: Words) -> u64
+    requires { ⌜ at .0 + 4 ≤ length (now message) ⌝ }
+    ensures { λ x. ⌜ lanes x ≡ wordsAt (now (message .entry)) (at .0) ⌝ }
 {
+    let i = at.0;
     pack(message[i], message[i + 1], message[i + 2], message[i + 3])
 }
 
 // The two bytes at a place as a word, the high one first.
-fn pair_at(message: &[u8], i: usize) -> u16
-    requires { ⌜ i + 2 ≤ length (now message) ⌝ }
-    ensures { λ w. ⌜ w ≡ pairAt (now (message .entry)) i ⌝ }
+fn pair_at(message: &[u8], at: Bytes) -> u16
+    requires { ⌜ at .0 + 2 ≤ length (now message) ⌝ }
+    ensures { λ w. ⌜ w ≡ pairAt (now (message .entry)) (at .0) ⌝ }
 {
+    let i = at.0;
     number::word(message[i], message[i + 1])
 }
 
 // The eight bytes at a place as four words.
-pub fn bytes_at(message: &[u8], i: usize) -> u64
-    requires { ⌜ i + 8 ≤ length (now message) ⌝ }
-    ensures { λ x. ⌜ lanes x ≡ pairsAt (now (message .entry)) i ⌝ }
+pub fn bytes_at(message: &[u8], at: Bytes) -> u64
+    requires { ⌜ at .0 + 8 ≤ length (now message) ⌝ }
+    ensures { λ x. ⌜ lanes x ≡ pairsAt (now (message .entry)) (at .0) ⌝ }
 {
+    let i = at.0;
     pack(
-        pair_at(message, i),
-        pair_at(message, i + 2),
-        pair_at(message, i + 4),
-        pair_at(message, i + 6),
+        pair_at(message, Bytes(i)),
+        pair_at(message, Bytes(i + 2)),
+        pair_at(message, Bytes(i + 4)),
+        pair_at(message, Bytes(i + 6)),
     )
 }
 

@@ -1,13 +1,16 @@
 // Reads lines of a width, a register and a message, all in hexadecimal digits, and prints each with the message's CRC.
 // A line that begins with # is printed as it is.
+use base::Bytes;
+use base::Words;
+use base::number;
 ghost use Prim.Native.Nat.{_<_, _≤_};
 ghost use lib.ListN.{length};
 ghost use Rattle.io.specs.Counts.{Counts};
 
 // Where the register begins in a line, and where the message.
-const REGISTER: usize = 3;
+const REGISTER: Bytes = Bytes(3);
 
-const MESSAGE: usize = 8;
+const MESSAGE: Bytes = Bytes(8);
 
 // A hexadecimal digit's value; another character counts as 0.
 fn digit(c: u8) -> u8
@@ -25,61 +28,60 @@ fn byte(high: u8, low: u8) -> u8 {
 }
 
 // The word at a place of a line; 0 where the line ends before.
-fn word(line: &[u8], at: usize) -> u16 {
+fn word(line: &[u8], at: Bytes) -> u16 {
+    let i = at.0;
     if line.len() < 4 {
         return 0;
     }
-    if line.len() - 4 < at {
+    if line.len() - 4 < i {
         return 0;
     }
-    let high = byte(line[at], line[at + 1]);
-    let low = byte(line[at + 2], line[at + 3]);
-    (high as u16) * 256 + (low as u16)
+    number::word(byte(line[i], line[i + 1]), byte(line[i + 2], line[i + 3]))
 }
 
 // The message as bytes: how many of the room are filled.
-fn read_bytes(line: &[u8], room: &mut [u8]) -> usize
-    ensures { λ r. ⌜ Counts r (now (room .exit)) ⌝ }
+fn read_bytes(line: &[u8], room: &mut [u8]) -> Bytes
+    ensures { λ r. ⌜ Counts (r .0) (now (room .exit)) ⌝ }
 {
     let mut n = 0;
-    let mut at = MESSAGE;
+    let mut at = MESSAGE.0;
     while n < room.len() {
         if line.len() < at + 2 {
-            return n;
+            return Bytes(n);
         }
         room[n] = byte(line[at], line[at + 1]);
         n += 1;
         at += 2;
     }
-    n
+    Bytes(n)
 }
 
 // The message as words: how many of the room are filled.
-fn read_words(line: &[u8], room: &mut [u16]) -> usize
-    ensures { λ r. ⌜ Counts r (now (room .exit)) ⌝ }
+fn read_words(line: &[u8], room: &mut [u16]) -> Words
+    ensures { λ r. ⌜ Counts (r .0) (now (room .exit)) ⌝ }
 {
     let mut n = 0;
-    let mut at = MESSAGE;
+    let mut at = MESSAGE.0;
     while n < room.len() {
         if line.len() < at + 4 {
-            return n;
+            return Words(n);
         }
-        room[n] = word(line, at);
+        room[n] = word(line, Bytes(at));
         n += 1;
         at += 4;
     }
-    n
+    Words(n)
 }
 
 fn crc_of_bytes(line: &[u8]) -> u16 {
     let mut room = [0u8; 1024];
-    let n = read_bytes(line, &mut room);
+    let n = read_bytes(line, &mut room).0;
     crc::bytes(word(line, REGISTER), &room[..n])
 }
 
 fn crc_of_words(line: &[u8]) -> u16 {
     let mut room = [0u16; 1024];
-    let n = read_words(line, &mut room);
+    let n = read_words(line, &mut room).0;
     crc::words(word(line, REGISTER), &room[..n])
 }
 

@@ -19,13 +19,12 @@ use Rattle.parity_rows.proofs.Folds.{number-xor}
 use Rattle.parity_rows.proofs.Words.{from-lt}
 use Rattle.parity_rows.proofs.ByRows.{row-lt, column-lt}
 use Rattle.parity.specs.declared.Judged.{Judged}
-use Rattle.parity.specs.Unit.{Finding, sound, parityBit, dataBit, neither, sumAll, firstOf, rowDiffers, columnDiffers, fiveCases, finding, reply, refused}
-use Rattle.parity.specs.Answered.{answerOf}
+use Rattle.parity.specs.Unit.{Finding, sound, parityBit, dataBit, neither, sumAll, firstOf, rowDiffers, columnDiffers, fiveCases, finding, reply, refused, named}
 use Rattle.parity.proofs.Counted.{ones-sum, leading-first}
 
 module _ (R C row column k : ℕ) where
   abbrev answered : Judged
-  answered = answerOf (fiveCases R C row column k) k
+  answered = named (fiveCases R C row column k) k
 
   pub case-sound : (eqb R 0 && eqb C 0) ≡ true → reply 0 0 0 0 k ≡ answered
   unfolding fiveCases

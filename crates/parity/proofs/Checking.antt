@@ -61,12 +61,9 @@ module _ (u room : List ℕ) (r : Judged) (e : r ≡ checkReply u (length room))
     unfolding checkReply
     reply-named = e ∙ answer-yes _ _ _ (sym reply-number ∙ z)
 
-    unit-length : (9 ≤ length u) × (length u ≤ 264)
+    pub unit-length : (9 ≤ length u) × (length u ≤ 264)
     unfolding checkVerdict
     unit-length = between 9 264 (length u) (spared (checkCauses u (length room)) refl (sym reply-number ∙ z) .0)
-
-    pub parity-before-data : 8 ≤ length u
-    parity-before-data = omega (arith, unit-length .0)
 
     data-fit : length (drop 8 u) ≤ length room
     unfolding checkVerdict

@@ -1,21 +1,21 @@
 -- The judge's reply, from what is found of the unit; and from that the checker's.
 use mathlib.Core.Path.{_≡_, refl, sym, ap, _∙_}
-use mathlib.Core.Bool.{Bool, true, false, cond, not, _&&_}
+use mathlib.Core.Bool.{Bool, true, false, cond, not, _&&_, false≢true}
 use mathlib.Core.List.{List, [], _∷_}
+use mathlib.Core.Logic.{_⊎_, inl, inr}
 use Prim.Native.Nat.{ℕ, _-_, _<_, _≤_}
 use native.Mathlib.Omega.{arith}
 use lib.Dec.{leb, ltb, eqb}
 use lib.Count.{ones, leadingZeros}
 use lib.ListN.{length, drop}
-use borrow.Author.Tests.{leb-true, le-ltb, lt-ltb, eqb-true}
+use borrow.Author.Tests.{leb-true, leb-false, lt-leb, le-ltb, lt-ltb, eqb-true}
 use Rattle.base.specs.Xor.{_⊕_}
-use Rattle.base.proofs.Refused.{verdict-kept, verdict-further, answer-no, answer-yes}
+use Rattle.base.proofs.Refused.{spared, verdict-kept, verdict-further, answer-no, answer-yes}
 use Rattle.base.specs.Refusal.{Causes, answer, wrongLength, wrongParity, noRoom}
 use Rattle.parity_rows.specs.declared.Sums.{Sums}
 use Rattle.parity_rows.specs.Parity.{parities, statedParity}
 use Rattle.parity.specs.declared.Judged.{Judged}
-use Rattle.parity.specs.Unit.{Finding, sound, parityBit, dataBit, neither, fiveCases, finding, isNeither, named, refused, notUnit, judgeCauses, judgeVerdict, judgeReply, checkVerdict, checkReply}
-use Rattle.parity.specs.Answered.{answerOf}
+use Rattle.parity.specs.Unit.{Finding, sound, parityBit, dataBit, neither, fiveCases, finding, isNeither, named, refused, notUnit, judgeCauses, judgeVerdict, judgeReply, checkCauses, checkVerdict, checkReply}
 use Rattle.parity.proofs.Cases.{cases-find}
 
 -- a length between two limits
@@ -27,17 +27,34 @@ between a b n e = by-tests (leb a n) (leb n b) refl refl e
     by-tests true false p q h = let z : _≡_ {A = ℕ} 0 1 = cc in absurd (omega arith)
     by-tests false t p q h = let z : _≡_ {A = ℕ} 0 1 = cc in absurd (omega arith)
 
+-- and one outside them
+pub outside : (a b n : ℕ) → not (leb a n && leb n b) ≡ true → (n < a) ⊎ (b < n)
+outside a b n e = by-tests (leb a n) (leb n b) refl refl e
+  where
+    by-tests : (s t : Bool) → leb a n ≡ s → leb n b ≡ t → not (s && t) ≡ true → (n < a) ⊎ (b < n)
+    by-tests false t p q h = inl (leb-false a n p)
+    by-tests true false p q h = inr (leb-false n b q)
+    by-tests true true p q h = absurd (false≢true h)
+
 -- ---- the judge
 
-pub wrong-length : (u : List ℕ) → notUnit (length u) ≡ true → refused wrongLength ≡ judgeReply u
-unfolding judgeReply judgeVerdict answer
-wrong-length u h = simp h
+not-unit : (n : ℕ) → (n < 9) ⊎ (264 < n) → notUnit n ≡ true
+not-unit n (inl h) = rw (lt-leb 9 n h)
+not-unit n (inr h) = by-start (leb 9 n)
+  where
+    by-start : (s : Bool) → not (s && leb n 264) ≡ true
+    by-start true = rw (lt-leb n 264 h)
+    by-start false = refl
 
-pub judgement : (u : List ℕ) → notUnit (length u) ≡ false → answerOf (finding u) (length u - 8) ≡ judgeReply u
+pub wrong-length : (u : List ℕ) → (length u < 9) ⊎ (264 < length u) → refused wrongLength ≡ judgeReply u
+unfolding judgeReply judgeVerdict answer
+wrong-length u h = simp (not-unit (length u) h)
+
+pub judgement : (u : List ℕ) → notUnit (length u) ≡ false → named (finding u) (length u - 8) ≡ judgeReply u
 unfolding judgeReply judgeVerdict answer
 judgement u h = simp h (by-finding (finding u))
   where
-    by-finding : (f : Finding) → answerOf f (length u - 8) ≡ answer (cond (isNeither f) wrongParity 0) refused (named f (length u - 8))
+    by-finding : (f : Finding) → named f (length u - 8) ≡ answer (cond (isNeither f) wrongParity 0) refused (named f (length u - 8))
     by-finding sound = refl
     by-finding (parityBit w b) = refl
     by-finding (dataBit w b) = refl
@@ -45,39 +62,49 @@ judgement u h = simp h (by-finding (finding u))
 
 -- from the parity that the unit states and that of its data
 pub judged-by : (u : List ℕ) (s p : Sums) (r : Judged) → notUnit (length u) ≡ false → s ≡ statedParity u → p ≡ parities (drop 8 u)
-    → r ≡ answerOf (fiveCases (ones (s .rows ⊕ p .rows)) (ones (s .columns ⊕ p .columns)) (leadingZeros 64 (s .rows ⊕ p .rows)) (leadingZeros 64 (s .columns ⊕ p .columns)) (length u - 8)) (length u - 8)
+    → r ≡ named (fiveCases (ones (s .rows ⊕ p .rows)) (ones (s .columns ⊕ p .columns)) (leadingZeros 64 (s .rows ⊕ p .rows)) (leadingZeros 64 (s .columns ⊕ p .columns)) (length u - 8)) (length u - 8)
     → r ≡ judgeReply u
-judged-by u s p r h e f q = q ∙ ap (λ (x : Finding). answerOf x (length u - 8)) (cases-find u s p e f) ∙ judgement u h
+judged-by u s p r h e f q = q ∙ ap (λ (x : Finding). named x (length u - 8)) (cases-find u s p e f) ∙ judgement u h
 
 -- ---- the number in a reply
 
-named-refusal : (f : Finding) (k : ℕ) → named f k .refusal ≡ 0
-named-refusal sound k = refl
-named-refusal (parityBit w b) k = refl
-named-refusal (dataBit w b) k = refl
-named-refusal neither k = refl
+-- of a finding that is not refused
+module _ (k : ℕ) where
+  named-refusal : (f : Finding) → isNeither f ≡ false → named f k .refusal ≡ 0
+  named-refusal sound e = refl
+  named-refusal (parityBit w b) e = refl
+  named-refusal (dataBit w b) e = refl
+  named-refusal neither e = absurd (false≢true (sym e))
 
-named-length : (f : Finding) (k : ℕ) → named f k .length .0 ≡ k
-named-length sound k = refl
-named-length (parityBit w b) k = refl
-named-length (dataBit w b) k = refl
-named-length neither k = refl
+  pub named-length : (f : Finding) → isNeither f ≡ false → named f k .length .0 ≡ k
+  named-length sound e = refl
+  named-length (parityBit w b) e = refl
+  named-length (dataBit w b) e = refl
+  named-length neither e = absurd (false≢true (sym e))
 
-number-in : (v : ℕ) (f : Finding) (k : ℕ) → answer v refused (named f k) .refusal ≡ v
+number-in : (v : ℕ) (f : Finding) (k : ℕ) → (v ≡ 0 → isNeither f ≡ false) → answer v refused (named f k) .refusal ≡ v
 unfolding answer
-number-in v f k = by-test (eqb v 0) refl
+number-in v f k h = by-test (eqb v 0) refl
   where
     by-test : (b : Bool) → eqb v 0 ≡ b → cond b (named f k) (refused v) .refusal ≡ v
-    by-test true e = named-refusal f k ∙ sym (eqb-true v 0 e)
+    by-test true e = let z = eqb-true v 0 e in named-refusal k f (h z) ∙ sym z
     by-test false e = refl
+
+pub judge-finds : (u : List ℕ) → judgeVerdict u ≡ 0 → isNeither (finding u) ≡ false
+unfolding judgeVerdict
+judge-finds u z = spared (judgeCauses u) refl z .1 .0
+
+check-finds : (u : List ℕ) (m : ℕ) → checkVerdict u m ≡ 0 → isNeither (finding u) ≡ false
+unfolding checkVerdict
+check-finds u m z = spared (checkCauses u m) refl z .1 .0
 
 pub judged-refusal : (u : List ℕ) → judgeReply u .refusal ≡ judgeVerdict u
 unfolding judgeReply
-judged-refusal u = number-in (judgeVerdict u) (finding u) (length u - 8)
+judged-refusal u = number-in (judgeVerdict u) (finding u) (length u - 8) (judge-finds u)
 
 pub checked-refusal : (u : List ℕ) (m : ℕ) → checkReply u m .refusal ≡ checkVerdict u m
 unfolding checkReply
-checked-refusal u m = number-in (checkVerdict u m) (finding u) (length u - 8)
+checked-refusal u m = number-in (checkVerdict u m) (finding u) (length u - 8) (check-finds u m)
 
 -- ---- the checker's reply, from the judge's: the room is looked at last
 
@@ -107,7 +134,7 @@ module _ (u : List ℕ) (m : ℕ) (r : Judged) (e : r ≡ judgeReply u) where
     unfolding judgeReply
     reply-length =
         ap (λ (s : Judged). s .length .0) (e ∙ answer-yes (judgeVerdict u) refused (named (finding u) (length u - 8)) judge-accepts)
-        ∙ named-length (finding u) (length u - 8)
+        ∙ named-length (length u - 8) (finding u) (judge-finds u judge-accepts)
 
     pub refused-for-room : m < r .length .0 → refused noRoom ≡ checkReply u m
     unfolding checkReply

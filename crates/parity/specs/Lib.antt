@@ -1,3 +1,1 @@
 pub mod Unit
-pub mod Answered
-pub mod Examples

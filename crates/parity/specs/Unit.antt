@@ -102,12 +102,13 @@ reply v s w b n = record { refusal = v; case = s; word = record { 0 = w }; bit =
 abbrev pub refused : ℕ → Judged
 refused v = reply v 0 0 0 0
 
--- the case (0 sound, 1 a parity bit, 2 a data bit), the word and the bit that was hit, zeros if sound, and the number of data words
+-- what is answered of a finding: the case (0 sound, 1 a parity bit, 2 a data bit), the word and the bit that was hit, zeros if sound, and the number k
+-- of data words; all else is refused
 abbrev pub named : Finding → ℕ → Judged
 named sound k = reply 0 0 0 0 k
 named (parityBit w b) k = reply 0 1 w b k
 named (dataBit w b) k = reply 0 2 w b k
-named neither k = reply 0 0 0 0 k
+named neither k = refused wrongParity
 
 unfoldable pub judgeReply : List ℕ → Judged
 judgeReply u = answer (judgeVerdict u) refused (named (finding u) (length u - 8))

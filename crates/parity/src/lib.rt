@@ -5,8 +5,7 @@ use base::refusal;
 ghost use mathlib.Core.Path.{_≡_};
 ghost use Prim.Native.Nat.{_-_, _%_, _≤_};
 ghost use lib.ListN.{length};
-ghost use Rattle.parity.specs.Unit.{reply, refused, fiveCases, judgeReply, checkReply, checkRoom, writeReply, writeRoom};
-ghost use Rattle.parity.specs.Answered.{answerOf};
+ghost use Rattle.parity.specs.Unit.{reply, refused, named, fiveCases, judgeReply, checkReply, checkRoom, writeReply, writeRoom};
 
 // What is found of a unit: the case (0 sound, 1 a parity bit was hit, 2 a data bit was hit and is repaired), the parity or data
 // word and the bit that was hit, zeros if sound, and the number of data words.
@@ -30,15 +29,15 @@ fn refused(number: u8) -> Judged
     }
 }
 
-fn accept(case: u8, word: usize, bit: u8, k: usize) -> Judged
-    ensures { λ r. ⌜ r ≡ reply 0 case word bit k ⌝ }
+fn accept(case: u8, word: Words, bit: u8, k: Words) -> Judged
+    ensures { λ r. ⌜ r ≡ reply 0 case (word .0) bit (k .0) ⌝ }
 {
     Judged {
         refusal: 0,
         case,
-        word: Words(word),
+        word,
         bit,
-        length: Words(k),
+        length: k,
     }
 }
 
@@ -50,22 +49,22 @@ fn bit_of(place: usize) -> u8
 }
 
 // The five cases, where r rows and c columns differ, `row` and `column` first, in a unit with k data words.
-fn five_cases(r: u32, c: u32, row: usize, column: usize, k: usize) -> Judged
+fn five_cases(r: u32, c: u32, row: usize, column: usize, k: Words) -> Judged
     requires { ⌜ (row ≤ 64) × (column ≤ 64) ⌝ }
-    ensures { λ j. ⌜ j ≡ answerOf (fiveCases r c row column k) k ⌝ }
+    ensures { λ j. ⌜ j ≡ named (fiveCases r c row column (k .0)) (k .0) ⌝ }
 {
     let word = 4 * row + column / 16;
     if (r == 0) & (c == 0) {
-        return accept(0, 0, 0, k);
+        return accept(0, Words(0), 0, k);
     }
     if (r == 1) & (c == 0) {
-        return accept(1, row / 16, bit_of(row), k);
+        return accept(1, Words(row / 16), bit_of(row), k);
     }
     if (r == 0) & (c == 1) {
-        return accept(1, 4 + column / 16, bit_of(column), k);
+        return accept(1, Words(4 + column / 16), bit_of(column), k);
     }
-    if (r == 1) & (c == 1) & (word < k) {
-        return accept(2, word, bit_of(column), k);
+    if (r == 1) & (c == 1) & (word < k.0) {
+        return accept(2, Words(word), bit_of(column), k);
     }
     refused(refusal::PARITY)
 }
@@ -82,24 +81,25 @@ pub fn judge_unit(unit: &[u16]) -> Judged
     let found = parity_rows::parity(&unit[8..]);
     let rows = stated.rows ^ found.rows;
     let columns = stated.columns ^ found.columns;
+    let k = Words(n - 8);
     five_cases(
         u64::count_ones(rows),
         u64::count_ones(columns),
         u64::leading_zeros(rows) as usize,
         u64::leading_zeros(columns) as usize,
-        n - 8,
+        k,
     )
 }
 
 // The checker's reply.
-fn look(unit: &[u16], room: usize) -> Judged
-    ensures { λ r. ⌜ r ≡ checkReply (now (unit .entry)) room ⌝ }
+fn look(unit: &[u16], room: Words) -> Judged
+    ensures { λ r. ⌜ r ≡ checkReply (now (unit .entry)) (room .0) ⌝ }
 {
     let r = judge_unit(unit);
     if r.refusal != 0 {
         return r;
     }
-    if room < r.length.0 {
+    if room.0 < r.length.0 {
         return refused(refusal::ROOM);
     }
     r
@@ -110,7 +110,7 @@ pub fn check_unit(unit: &[u16], room: &mut [u16]) -> Judged
     ensures { λ r. ⌜ r ≡ checkReply (now (unit .entry)) (length (now (room .entry))) ⌝ }
     ensures { λ _. ⌜ now (room .exit) ≡ checkRoom (now (unit .entry)) (now (room .entry)) ⌝ }
 {
-    let r = look(unit, room.len());
+    let r = look(unit, Words(room.len()));
     if r.refusal != 0 {
         return r;
     }
@@ -124,15 +124,15 @@ pub fn check_unit(unit: &[u16], room: &mut [u16]) -> Judged
 }
 
 // The writer's reply.
-fn plan(data: &[u16], room: usize) -> Written
-    ensures { λ r. ⌜ r ≡ writeReply (length (now («data» .entry))) room ⌝ }
+fn plan(data: &[u16], room: Words) -> Written
+    ensures { λ r. ⌜ r ≡ writeReply (length (now («data» .entry))) (room .0) ⌝ }
 {
     let k = data.len();
     refusal::settle(
         refusal::cause(
             refusal::LENGTH,
             !((1 <= k) & (k <= 256)),
-            refusal::cause(refusal::ROOM, room < 8 + k, 0),
+            refusal::cause(refusal::ROOM, room.0 < 8 + k, 0),
         ),
         Words(8 + k),
     )
@@ -143,7 +143,7 @@ pub fn write_unit(data: &[u16], room: &mut [u16]) -> Written
     ensures { λ r. ⌜ r ≡ writeReply (length (now («data» .entry))) (length (now (room .entry))) ⌝ }
     ensures { λ _. ⌜ now (room .exit) ≡ writeRoom (now («data» .entry)) (now (room .entry)) ⌝ }
 {
-    let r = plan(data, room.len());
+    let r = plan(data, Words(room.len()));
     if r.refusal != 0 {
         return r;
     }

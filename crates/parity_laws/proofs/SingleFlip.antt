@@ -8,18 +8,20 @@ use Prim.Native.Nat.{ℕ, _+_, _-_, _*_, _/_, _%_, _^_, _<_, _≤_}
 use native.Mathlib.Omega.{arith}
 use lib.Dec.{ltb}
 use lib.Bits.{xor-zero-l, xor-zero-r, xor-self}
-use lib.ListN.{length, getD, set, drop, length-set}
-use lib.Seq.{drop-set-lt, drop-set-add, getD-drop, getD-set-same, set-set, set-getD}
+use lib.ListN.{length, getD, set, take, drop, length-set}
+use lib.Seq.{take-append-seam, drop-set-lt, drop-set-add, getD-drop, getD-set-same, set-set, set-getD}
 use borrow.Author.Tests.{le-leb, lt-ltb, ltb-true, ltb-false}
 use Rattle.base.specs.Xor.{_⊕_}
 use Rattle.base_room.specs.Room.{put}
 use Rattle.base.proofs.XorLaws.{xor-assoc}
-use Rattle.base.proofs.Refused.{answer-yes}
+use Rattle.base.specs.Refusal.{settled, wrote}
+use Rattle.base.specs.declared.Written.{Written}
+use Rattle.base.proofs.Refused.{spared, answer-yes, settled-refusal}
+use Rattle.base_room.proofs.RoomLaws.{put-fits}
 use Rattle.parity.specs.declared.Judged.{Judged}
-use Rattle.parity.specs.Unit.{unitOf, flipped, rowDiffers, columnDiffers, sumAll, firstOf, Finding, sound, parityBit, dataBit, neither, fiveCases, finding, repaired, unitData, reply, judgeVerdict, judgeReply, checkReply, checkRoom}
-use Rattle.parity.specs.Answered.{answerOf}
-use Rattle.parity.proofs.Judging.{judgement, judged-refusal, checked-refusal, accepted-as-judged}
-use Rattle.parity_laws.specs.Units.{Fits, Answers, WrittenIsSound, OneFlipIsRepaired, Hold, Arrived, none, whole, hurt, ArrivedHold}
+use Rattle.parity.specs.Unit.{unitOf, flipped, rowDiffers, columnDiffers, sumAll, firstOf, Finding, sound, parityBit, dataBit, neither, fiveCases, finding, repaired, unitData, reply, named, judgeVerdict, judgeReply, checkReply, checkRoom, writeCauses, writeVerdict, writeReply, writeRoom}
+use Rattle.parity.proofs.Judging.{between, judgement, judged-refusal, checked-refusal, accepted-as-judged}
+use Rattle.parity_laws.specs.Units.{Accepted, written, Fits, Answers, WrittenIsSound, OneFlipIsRepaired, Hold, Arrived, none, whole, hurt, ArrivedHold}
 use Rattle.parity_laws.proofs.Spot.{spot, sum-cong, first-cong, sum-none, sum-spot, first-spot}
 use Rattle.parity_laws.proofs.Flips.{rowFlip, columnFlip, flip-row, flip-column, unit-data, unit-length, no-row, no-column}
 use Rattle.parity_laws.proofs.Places.{data-flip-row, data-flip-column, row-parity-flip-row, row-parity-flip-column, column-parity-flip-row, column-parity-flip-column}
@@ -87,13 +89,13 @@ record Repaired (u d : List ℕ) (case word bit : ℕ) : Type 0 where
 
 module _ (d : List ℕ) (fits : Fits d) where
   -- a unit of the right length is judged by what is found of it
-  judged-by-finding : (u : List ℕ) (f : Finding) → length u ≡ 8 + length d → finding u ≡ f → judgeReply u ≡ answerOf f (length d)
+  judged-by-finding : (u : List ℕ) (f : Finding) → length u ≡ 8 + length d → finding u ≡ f → judgeReply u ≡ named f (length d)
   judged-by-finding u f n e =
       let some = fits .0 in
       let most = fits .1 in
       let k : length u - 8 ≡ length d = omega arith in
       sym (judgement u (ap₂ (λ (s t : Bool). not (s && t)) (le-leb 9 (length u) (omega arith)) (le-leb (length u) 264 (omega arith))))
-      ∙ ap₂ answerOf e k
+      ∙ ap₂ named e k
 
   -- ---- as it is written
 
@@ -218,16 +220,44 @@ module _ {u d : List ℕ} {case word bit : ℕ} (r : Repaired u d case word bit)
       ∙ ap (λ (x : List ℕ). put x 0 room) (r .holds)
 
   answers : Answers u d case word bit
-  answers = record { replies = checks; gives = gives-data }
+  answers = record { judged = r .judges; checked = checks; gives = gives-data }
 
   accepted : judgeVerdict u ≡ 0
   accepted = sym (judged-refusal u) ∙ ap (λ (j : Judged). j .refusal) (r .judges)
 
+-- ---- from the unit to what the writer left in the room
+
+module _ (d room : List ℕ) (a : Accepted d room) where
+  abbrev verdictThere : ℕ
+  verdictThere = writeVerdict (length d) (length room)
+
+  no-cause : verdictThere ≡ 0
+  unfolding writeReply
+  no-cause = sym (settled-refusal verdictThere (8 + length d)) ∙ a
+
+  data-fit : Fits d
+  unfolding writeVerdict
+  data-fit = between 1 256 (length d) (spared (writeCauses (length d) (length room)) refl no-cause .0)
+
+  unit-fits : 8 + length d ≤ length room
+  unfolding writeVerdict
+  unit-fits = ltb-false (length room) (8 + length d) (spared (writeCauses (length d) (length room)) refl no-cause .1 .0)
+
+  unit-written : written d room ≡ unitOf d
+  unfolding writeReply writeRoom settled
+  unit-written =
+      let n = unit-length d in
+      ap₂ take (ap (λ (r : Written). r .length .0) (answer-yes verdictThere _ (wrote 0 (8 + length d)) no-cause) ∙ sym n)
+      (answer-yes verdictThere (λ v. room) (put (unitOf d) 0 room) no-cause ∙ put-fits (unitOf d) 0 room (omega (arith, unit-fits)))
+      ∙ take-append-seam (unitOf d) (drop (0 + length (unitOf d)) room)
+
 pub written-is-sound : WrittenIsSound
-written-is-sound d fits = answers (written-repaired d fits)
+written-is-sound d room a = rw (unit-written d room a) (answers (written-repaired d (data-fit d room a)))
 
 pub one-flip-is-repaired : OneFlipIsRepaired
-one-flip-is-repaired d fits w b hw hb = answers (flip-repaired d fits w b hw hb)
+one-flip-is-repaired d room a w b hw hb =
+    let e = unit-written d room a in
+    rw e (answers (flip-repaired d (data-fit d room a) w b (omega (arith, hw, ap length e ∙ unit-length d)) hb))
 
 pub arrived-hold : ArrivedHold
 arrived-hold us ds a = by-unit a

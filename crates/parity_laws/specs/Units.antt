@@ -1,33 +1,42 @@
--- FORMAT, "Parity units" and "The three demands": a written unit is sound, and one flipped bit anywhere in it is found, named, and the data come back
--- right. For data of every length from 1 to 256.
+-- FORMAT, "Parity units" and "The three demands": what the unit writer left in the room is sound, and one flipped bit anywhere in it is found, named, and
+-- the data come back right. For data of every length that the writer takes.
 use Prim.Native.Nat.{ℕ, _+_, _-_, _≤_, _<_}
 use mathlib.Core.Path.{_≡_}
 use mathlib.Core.Bool.{cond}
 use mathlib.Core.List.{List, [], _∷_}
-use lib.ListN.{length}
+use lib.ListN.{length, take}
 use lib.Dec.{ltb}
 use Rattle.base_room.specs.Room.{put}
-use Rattle.parity.specs.Unit.{unitOf, flipped, judgeVerdict, unitData, reply, checkReply, checkRoom}
+use Rattle.parity.specs.Unit.{unitOf, flipped, judgeVerdict, unitData, reply, judgeReply, checkReply, checkRoom, writeReply, writeRoom}
 
--- data that a unit is written for
-abbrev pub Fits : List ℕ → Type 0
-Fits d = (1 ≤ length d) × (length d ≤ 256)
+-- the writer takes these data in this room
+abbrev pub Accepted : List ℕ → List ℕ → Type 0
+Accepted d room = writeReply (length d) (length room) .refusal ≡ 0
 
--- a unit is answered so, in a room of as many words as the data `d` at the least, and the room then holds the data
+-- the unit that it left there: as many words as it answered, from the front of the room
+abbrev pub written : List ℕ → List ℕ → List ℕ
+written d room = take (writeReply (length d) (length room) .length .0) (writeRoom d room)
+
+-- a unit is answered so by the judge, and by the checker in a room of as many words as the data `d` at the least, and the room then holds the data
 pub record Answers (u d : List ℕ) (case word bit : ℕ) : Type 0 where
-  pub replies : (m : ℕ) → length d ≤ m → checkReply u m ≡ reply 0 case word bit (length d)
+  pub judged : judgeReply u ≡ reply 0 case word bit (length d)
+  pub checked : (m : ℕ) → length d ≤ m → checkReply u m ≡ reply 0 case word bit (length d)
   pub gives : (room : List ℕ) → length d ≤ length room → checkRoom u room ≡ put d 0 room
 
 -- a written unit is sound
 abbrev pub WrittenIsSound : Type 0
-WrittenIsSound = (d : List ℕ) → Fits d → Answers (unitOf d) d 0 0 0
+WrittenIsSound = (d room : List ℕ) → Accepted d room → Answers (written d room) d 0 0 0
 
--- One bit b of any of its 8 + k words w flipped: a parity bit, or a data bit, and it is named.
+-- One bit b of any of its words w flipped: a bit of the 8 parity words, or of the data words after them, and it is named.
 abbrev pub OneFlipIsRepaired : Type 0
-OneFlipIsRepaired = (d : List ℕ) → Fits d → (w b : ℕ) → w < 8 + length d → b < 16
-    → Answers (flipped (unitOf d) w b) d (cond (ltb w 8) 1 2) (cond (ltb w 8) w (w - 8)) b
+OneFlipIsRepaired = (d room : List ℕ) → Accepted d room → (w b : ℕ) → w < length (written d room) → b < 16
+    → Answers (flipped (written d room) w b) d (cond (ltb w 8) 1 2) (cond (ltb w 8) w (w - 8)) b
 
 -- ---- many units
+
+-- data that a unit is written for
+abbrev pub Fits : List ℕ → Type 0
+Fits d = (1 ≤ length d) × (length d ≤ 256)
 
 -- each of these units is accepted, and holds the data beside it
 abbrev pub Hold : List (List ℕ) → List (List ℕ) → Type 0

@@ -19,6 +19,10 @@ pub bit-lt : (w b : ℕ) → bitOf w b < 2
 unfolding bitOf
 bit-lt w b = mod-lt (w / 2 ^ b) (lit< tt)
 
+zero-bit : (w b : ℕ) → w ≡ 0 → bitOf w b ≡ 0
+unfolding bitOf
+zero-bit w b e = ap (λ (x : ℕ). x / 2 ^ b % 2) e ∙ ap (λ (x : ℕ). x % 2) (zero-div (2 ^ b))
+
 pub bit-linear : (b : ℕ) → Linear (λ w. bitOf w b)
 unfolding bitOf
 bit-linear b = xor-bit b
@@ -41,13 +45,12 @@ word-bits w h =
 
 pub from-lt : (ws : List ℕ) (w i : ℕ) → bitFrom ws w i < 2
 unfolding bitFrom
-from-lt ws w i = bit-lt (getD ws (w + i / 16) 0) (15 - i % 16)
+from-lt ws w i = bit-lt _ _
 
 -- past the end all is 0
 pub from-past : (ws : List ℕ) (w i : ℕ) → length ws ≤ w → bitFrom ws w i ≡ 0
-unfolding bitFrom bitOf
-from-past ws w i h =
-    ap (λ (x : ℕ). x / 2 ^ (15 - i % 16) % 2) (List·getD-eq-default ws 0 {n = w + i / 16} (omega arith)) ∙ ap (λ (x : ℕ). x % 2) (zero-div (2 ^ (15 - i % 16)))
+unfolding bitFrom
+from-past ws w i h = zero-bit _ _ (List·getD-eq-default ws 0 {n = w + i / 16} (omega arith))
 
 -- bit 16 j + i from a word on is digit i of the j-th word after it
 pub from-digit : (ws : List ℕ) (w j i : ℕ) → i < 16 → bitFrom ws w (16 * j + i) ≡ digit (getD ws (w + j) 0) i

@@ -19,15 +19,16 @@ fn pack_row(a: u16, b: u16, c: u16, d: u16) -> u64
 }
 
 // The 64 bits from a word on as one number, the first bit highest.
-fn bits_from(words: &[u16], at: usize) -> u64
-    requires { ⌜ at ≤ 256 ⌝ }
-    ensures { λ r. ⌜ r ≡ number 64 (bitFrom (now (words .entry)) at) ⌝ }
+fn bits_from(words: &[u16], at: Words) -> u64
+    requires { ⌜ at .0 ≤ 256 ⌝ }
+    ensures { λ r. ⌜ r ≡ number 64 (bitFrom (now (words .entry)) (at .0)) ⌝ }
 {
+    let first = at.0;
     pack_row(
-        base_room::word_at(words, Words(at)),
-        base_room::word_at(words, Words(at + 1)),
-        base_room::word_at(words, Words(at + 2)),
-        base_room::word_at(words, Words(at + 3)),
+        base_room::word_at(words, Words(first)),
+        base_room::word_at(words, Words(first + 1)),
+        base_room::word_at(words, Words(first + 2)),
+        base_room::word_at(words, Words(first + 3)),
     )
 }
 
@@ -56,7 +57,7 @@ pub fn parity(data: &[u16]) -> Sums
         if data.len() <= 4 * r {
             return s;
         }
-        s = add(s, bits_from(data, 4 * r), r);
+        s = add(s, bits_from(data, Words(4 * r)), r);
         r += 1;
     }
     s
@@ -67,8 +68,8 @@ pub fn stated(unit: &[u16]) -> Sums
     ensures { λ s. ⌜ s ≡ statedParity (now (unit .entry)) ⌝ }
 {
     Sums {
-        rows: bits_from(unit, 0),
-        columns: bits_from(unit, 4),
+        rows: bits_from(unit, Words(0)),
+        columns: bits_from(unit, Words(4)),
     }
 }
 

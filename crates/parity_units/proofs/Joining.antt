@@ -16,8 +16,8 @@ use Rattle.base_room.proofs.RoomLaws.{put-fits}
 use Rattle.base_room.proofs.Filling as filling
 use Rattle.base_room.proofs.Filling.{Filled, put-lent}
 use Rattle.parity.specs.declared.Judged.{Judged}
-use Rattle.parity.specs.Unit.{Finding, sound, parityBit, dataBit, neither, finding, unitData}
-use Rattle.parity.specs.Unit.{judgeCauses, judgeVerdict, refused, named, checkCauses, checkVerdict, checkReply, checkRoom}
+use Rattle.parity.specs.Unit.{finding, unitData, judgeCauses, judgeVerdict, refused, named, checkCauses, checkVerdict, checkReply, checkRoom}
+use Rattle.parity.proofs.Judging.{named-length, judge-finds}
 use Rattle.parity_units.specs.Split.{unitsIn, given, givenData, dataWords, dataWordsIn}
 use Rattle.parity_units.specs.Replies.{joinReply, joinRoom}
 use Rattle.parity_units.proofs.Split.{units-end, units-step, data-length, data-words, given-length, given-words}
@@ -27,12 +27,6 @@ use Rattle.parity_units.proofs.Split.{units-end, units-step, data-lengt
 record Gives (u room : List ℕ) : Type 0 where
   writes : checkRoom u room ≡ put (given u) 0 room
   says : checkReply u (length room) .length .0 ≡ length (given u)
-
-named-length : (f : Finding) (k : ℕ) → named f k .length .0 ≡ k
-named-length sound k = refl
-named-length (parityBit w b) k = refl
-named-length (dataBit w b) k = refl
-named-length neither k = refl
 
 module _ (u room : List ℕ) where
   abbrev verdictHere : ℕ
@@ -49,7 +43,7 @@ module _ (u room : List ℕ) where
         writes = answer-yes verdictHere (λ n. room) (put (unitData u) 0 room) v ∙ ap (λ (d : List ℕ). put d 0 room) (sym g);
         says =
             ap (λ (r : Judged). r .length .0) (answer-yes verdictHere refused (named (finding u) (length u - 8)) v)
-            ∙ named-length (finding u) (length u - 8) ∙ sym l;
+            ∙ named-length (length u - 8) (finding u) (judge-finds u a) ∙ sym l;
       }
 
   refused-gives : (judgeVerdict u ≡ 0 → ⊥) → Gives u room

@@ -34,11 +34,14 @@ pub fn data_words(n: Words) -> Words
 }
 
 // Where the unit ends that begins at a place of a payload of n words.
-fn unit_end(at: usize, n: usize) -> usize
-    requires { ⌜ at ≤ n ⌝ }
-    ensures { λ r. ⌜ r ≡ at + min 264 (n - at) ⌝ }
+fn unit_end(at: Words, n: Words) -> Words
+    requires { ⌜ at .0 ≤ n .0 ⌝ }
+    ensures { λ r. ⌜ r .0 ≡ at .0 + min 264 (n .0 - at .0) ⌝ }
 {
-    if n - at < UNIT.0 { n } else { at + UNIT.0 }
+    if n.0 - at.0 < UNIT.0 {
+        return n;
+    }
+    Words(at.0 + UNIT.0)
 }
 
 // Whether a unit of the payload is refused with 6.
@@ -48,7 +51,7 @@ pub fn damaged(payload: &[u16]) -> bool
     let n = payload.len();
     let mut at = 0;
     while at < n {
-        let end = unit_end(at, n);
+        let end = unit_end(Words(at), Words(n)).0;
         if parity::judge_unit(&payload[at..end]).refusal == refusal::PARITY {
             return true;
         }
@@ -74,7 +77,7 @@ pub fn join(payload: &[u16], room: &mut [u16], place: Words) -> Words
     let mut at = 0;
     let mut to = from;
     while at < n {
-        let end = unit_end(at, n);
+        let end = unit_end(Words(at), Words(n)).0;
         let unit = parity::check_unit(&payload[at..end], &mut room[to..]);
         to += unit.length.0;
         at = end;
@@ -106,7 +109,7 @@ pub fn count(payload: &[u16]) -> Outcomes
     let mut refused = 0;
     let mut at = 0;
     while at < n {
-        let end = unit_end(at, n);
+        let end = unit_end(Words(at), Words(n)).0;
         let outcome = outcome_of(parity::judge_unit(&payload[at..end]));
         sound += one_if(outcome == 0);
         hit += one_if(outcome == 1);

@@ -10,10 +10,10 @@ use Rattle.crc.proofs.last_words.Statement.{statement}
 use Rattle.crc.proofs.last_words.Tie as tie
 
 abbrev Inv-loop : tie.InvT-loop
-Inv-loop start message from r₀ i₀ r i = crcWords r (drop i message) ≡ crcWords start (drop from message)
+Inv-loop start message r₀ i₀ r i = crcWords r (drop i message) ≡ crcWords start (drop i₀ message)
 
 abbrev μ-loop : tie.MeasureT-loop
-μ-loop start message from r₀ i₀ r i = length message - i
+μ-loop start message r₀ i₀ r i = length message - i
 
 loop-holds : tie.Need-loop-holds Inv-loop μ-loop
 loop-holds c = refl

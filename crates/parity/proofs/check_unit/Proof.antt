@@ -1,7 +1,7 @@
 -- `parity::check_unit` meets its contract: the data stand in the room, and where a data bit was hit it is flipped back there.
 use native.Mathlib.Omega.{arith}
 use borrow.Author.Needs.{needs}
-use Rattle.parity.proofs.Checking.{untouched, parity-before-data, bit-in-word, word-below-256, data-as-they-stand, word-in-room, data-repaired}
+use Rattle.parity.proofs.Checking.{untouched, unit-length, bit-in-word, word-below-256, data-as-they-stand, word-in-room, data-repaired}
 use Rattle.parity.proofs.check_unit.Statement.{statement}
 use Rattle.parity.proofs.check_unit.Tie as tie
 
@@ -11,12 +11,12 @@ returns c = (c .before .before .look .ensures, untouched _ _ _ (c .before .befor
 sub-put-words : tie.Need-sub-put-words
 sub-put-words c =
     let a = c .before .before .before .before .before .args in
-    parity-before-data (a .unit .now) (a .room .now) _ (c .before .before .look .ensures) (c .if1 .left)
+    omega (arith, unit-length (a .unit .now) (a .room .now) _ (c .before .before .look .ensures) (c .if1 .left) .0)
 
 part-put-words-start : tie.Need-part-put-words-start
 part-put-words-start c =
     let a = c .before .before .before .before .before .args in
-    parity-before-data (a .unit .now) (a .room .now) _ (c .before .before .look .ensures) (c .if1 .left)
+    omega (arith, unit-length (a .unit .now) (a .room .now) _ (c .before .before .look .ensures) (c .if1 .left) .0)
 
 returns-2 : tie.Need-returns-2
 returns-2 c =

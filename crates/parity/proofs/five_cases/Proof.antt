@@ -15,10 +15,10 @@ returns-3 : tie.Need-returns-3
 returns-3 c = c .accept3 .ensures ∙ case-column _ _ _ _ _ (c .before .before .before .before .if1 .left) _ (c .before .before .before .if2 .left) (c .before .before .if3 .taken) (c .before .bit-of2 .ensures)
 
 returns-4 : tie.Need-returns-4
-returns-4 c = c .accept4 .ensures ∙ case-data _ _ _ _ _ (c .before .before .before .before .before .if1 .left) _ (c .before .before .before .before .if2 .left) (c .before .before .before .if3 .left) (c .before .before .if4 .taken) (c .before .bit-of3 .ensures)
+returns-4 c = c .accept4 .ensures ∙ case-data _ _ _ _ _ (c .before .before .before .before .before .before .if1 .left) _ (c .before .before .before .before .before .if2 .left) (c .before .before .before .before .if3 .left) (c .before .before .if4 .taken) (c .before .bit-of3 .ensures)
 
 returns-5 : tie.Need-returns-5
-returns-5 c = c .refused .ensures ∙ case-neither _ _ _ _ _ (c .before .before .before .before .if1 .left) 0 (c .before .before .before .if2 .left) (c .before .before .if3 .left) (c .before .if4 .left)
+returns-5 c = c .refused .ensures ∙ case-neither _ _ _ _ _ (c .before .before .before .before .before .if1 .left) 0 (c .before .before .before .before .if2 .left) (c .before .before .before .if3 .left) (c .before .if4 .left)
 
 pub five-cases-spec : {M : Type 1} → statement M
 five-cases-spec =

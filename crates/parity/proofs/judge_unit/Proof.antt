@@ -1,35 +1,42 @@
 -- `parity::judge_unit` meets its contract: by its test of the length, and then by what the five cases find.
 use mathlib.Core.Path.{ap, _∙_}
+use mathlib.Core.Logic.{inl, inr}
 use native.Mathlib.Omega.{arith}
 use lib.ListN.{length}
 use lib.Count.{leading-le}
 use Rattle.base.specs.Xor.{_⊕_}
 use Rattle.base_room.proofs.RoomLaws.{to-end}
 use Rattle.parity_rows.specs.Parity.{parities}
-use Rattle.parity.proofs.Judging.{between, wrong-length, judged-by}
+use Rattle.parity.proofs.Judging.{between, outside, wrong-length, judged-by}
 use borrow.Author.Needs.{needs}
 use Rattle.parity.proofs.judge_unit.Statement.{statement}
 use Rattle.parity.proofs.judge_unit.Tie as tie
 
 returns : tie.Need-returns
-returns c = c .refused .ensures ∙ wrong-length _ (c .before .if1 .taken)
+returns c =
+    let u = c .before .before .before .args .unit .now in
+    c .refused .ensures
+    ∙ elim (outside _ _ (length u) (c .before .if1 .taken)) [
+      | inl short ↦ wrong-length u (inl (omega (arith, short)))
+      | inr long ↦ wrong-length u (inr (omega (arith, long)))
+    ]
 
 sub-parity : tie.Need-sub-parity
-sub-parity c = omega (arith, between 9 264 (length (c .before .before .before .args .unit .now)) (c .before .if1 .left) .0)
+sub-parity c = omega (arith, between _ _ (length (c .before .before .before .args .unit .now)) (c .before .if1 .left) .0)
 
 part-parity-start : tie.Need-part-parity-start
-part-parity-start c = omega (arith, between 9 264 (length (c .before .before .before .args .unit .now)) (c .before .if1 .left) .0)
+part-parity-start c = omega (arith, between _ _ (length (c .before .before .before .args .unit .now)) (c .before .if1 .left) .0)
+
+sub-five-cases : tie.Need-sub-five-cases
+sub-five-cases c =
+    let stated = c .before .before .before .before .before .before in
+    omega (arith, between _ _ (length (stated .before .before .before .args .unit .now)) (stated .before .if1 .left) .0)
 
 cast-five-cases : tie.Need-cast-five-cases
 cast-five-cases c = omega (arith, leading-le 64 (c .before .before .before .before .before .before .stated .result .rows ⊕ c .before .before .before .before .parity .result .rows))
 
 cast-five-cases-2 : tie.Need-cast-five-cases-2
 cast-five-cases-2 c = omega (arith, leading-le 64 (c .before .before .before .before .before .before .stated .result .columns ⊕ c .before .before .before .before .parity .result .columns))
-
-sub-five-cases : tie.Need-sub-five-cases
-sub-five-cases c =
-    let stated = c .before .before .before .before .before .before in
-    omega (arith, between 9 264 (length (stated .before .before .before .args .unit .now)) (stated .before .if1 .left) .0)
 
 five-cases-requires : tie.Need-five-cases-requires
 five-cases-requires c κs = (leading-le 64 _, leading-le 64 _)
@@ -52,8 +59,8 @@ judge-unit-spec =
     part-parity-start
     (λ c. search needs)
     (λ c κs. search needs)
+    sub-five-cases
     cast-five-cases
     cast-five-cases-2
-    sub-five-cases
     five-cases-requires
     returns-2)

@@ -36,7 +36,7 @@ module _ (c : tie.After-outcome-of Inv-loop μ-loop) where
   payload = l .before .before .args .payload .now
 
   counted : (k n i : ℕ) → Counted payload (l .loop .at) k n → i ≡ cond (eqb (c .outcome-of .result) k) 1 0
-      → (i ≤ 1) × Counted payload (e .unit-end .result) k (n + i)
+      → (i ≤ 1) × Counted payload (e .unit-end .result .0) k (n + i)
   counted k n i q t =
       unit-counted payload (l .loop .at) k n q _ (e .before .loop-test .taken) (e .unit-end .ensures) (c .outcome-of .result)
       (c .outcome-of .ensures ∙ ap outcomeOf (c .before .judge-unit .ensures)) i t
