@@ -1,16 +1,16 @@
 -- The answer about the last packet: which of its causes holds, and that a place that is shown has 32 words.
 use mathlib.Core.Path.{_≡_, refl, sym, ap, ap₂, _∙_}
 use mathlib.Core.Bool.{Bool, true, false, cond}
-use mathlib.Core.List.{List, [], _∷_, _++_}
+use mathlib.Core.List.{List, [], _∷_}
 use Prim.Native.Nat.{ℕ, _+_, _≤_}
 use native.Mathlib.Omega.{arith}
 use lib.ListN.{length, take, drop, length-take, length-drop}
-use lib.Dec.{eqb, ltb}
+use lib.Dec.{eqb}
 use borrow.Author.Tests.{eq-eqb, ne-eqb, eqb-true, eqb-false}
 use Rattle.base.proofs.Booleans.{and-left, and-right}
 use Rattle.base.specs.Refusal.{Causes, verdict, nothingThere}
 use Rattle.base.specs.declared.Words.{Words}
-use Rattle.base.proofs.Refused.{numbered, spared, answer-no, answer-yes}
+use Rattle.base.proofs.Refused.{verdict-kept, verdict-further, answer-no, answer-yes}
 use Rattle.health.specs.Packet.{packetType, soundPacket}
 use Rattle.health.proofs.Sound.{sound-long}
 use Rattle.health_last.specs.declared.Place.{Place}
@@ -46,17 +46,6 @@ sound-within t ws p e =
 
 -- ---- the causes
 
--- further causes tell nothing where one of the first holds, and all where none does
-verdict-first : (cs ds : Causes) → (verdict cs ≡ 0 → ⊥) → verdict (cs ++ ds) ≡ verdict cs
-verdict-first [] ds h = absurd (h refl)
-verdict-first ((n, true) ∷ cs) ds h = refl
-verdict-first ((n, false) ∷ cs) ds h = verdict-first cs ds h
-
-verdict-last : (cs ds : Causes) → numbered cs ≡ true → verdict cs ≡ 0 → verdict (cs ++ ds) ≡ verdict ds
-verdict-last [] ds k e = refl
-verdict-last ((n, true) ∷ cs) ds k e = let z = spared ((n, true) ∷ cs) k e .0 in let o : _≡_ {A = ℕ} 0 1 = cc in absurd (omega arith)
-verdict-last ((n, false) ∷ cs) ds k e = verdict-last cs ds (and-right (ltb 0 n) (numbered cs) k) e
-
 module _ (sync : ℕ) (science : List ℕ) (t : ℕ) (health : List ℕ) {v : ℕ} (e : v ≡ verdict (argumentCauses science health t)) where
   abbrev found : Place
   found = shown (inScience sync science t) (inHealth health t)
@@ -70,7 +59,7 @@ module _ (sync : ℕ) (science : List ℕ) (t : ℕ) (health : List ℕ) {v : �
   pub arguments-refused : (v ≡ 0 → ⊥) → refused v ≡ lastPlaceReply sync science health t
   unfolding lastPlaceReply
   arguments-refused h =
-      let k = verdict-first arguments neither (λ z. h (e ∙ z)) in
+      let k = verdict-kept arguments neither (λ z. h (e ∙ z)) in
       ap refused (e ∙ sym k) ∙ sym (answer-no _ _ found (λ z. h (e ∙ sym k ∙ z)))
 
   module _ (z : v ≡ 0) {a b : Sought} (ea : a ≡ inScience sync science t) (eb : b ≡ inHealth health t) {s : Place} (ec : s ≡ shown a b) where
@@ -79,7 +68,7 @@ module _ (sync : ℕ) (science : List ℕ) (t : ℕ) (health : List ℕ) {v : �
 
     last-verdict : (b : Bool) → eqb (s .recording) 0 ≡ b → verdict (lastCauses sync science health t) ≡ cond b nothingThere 0
     last-verdict b eb =
-        verdict-last arguments neither refl (sym e ∙ z)
+        verdict-further arguments neither refl (sym e ∙ z)
         ∙ ap (λ (x : Bool). cond x nothingThere 0) (sym (ap (λ (x : Place). eqb (x .recording) 0) es) ∙ eb)
 
     pub none-refused : s .recording ≡ 0 → refused nothingThere ≡ lastPlaceReply sync science health t

@@ -1,1 +1,4 @@
 pub mod Written
+pub mod Fields
+pub mod Examples
+pub mod Recordings
