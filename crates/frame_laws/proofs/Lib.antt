@@ -1,3 +1,4 @@
+mod Moved
 pub mod Pieces
 pub mod Resync
 pub mod Written

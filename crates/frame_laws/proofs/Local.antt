@@ -1,7 +1,7 @@
 -- A frame's chunks stand end to end, by the rule that joins them, and each is confirmed where it stands. So the words of the frame are a row of whole
 -- chunks, which is listed whole when it is read alone.
 use mathlib.Core.Path.{_≡_, refl, sym, ap, ap₂, subst, _∙_}
-use mathlib.Core.Bool.{Bool, true, false, _&&_, false≢true, and-false}
+use mathlib.Core.Bool.{Bool, true, false, _&&_, _||_, false≢true, and-false}
 use mathlib.Core.List.{List, [], _∷_, _++_}
 use mathlib.Core.Logic.{inl, inr}
 use Prim.Native.Nat.{ℕ, zero, suc, _+_, _≤_}
@@ -9,14 +9,15 @@ use native.Mathlib.Omega.{arith}
 use native.Mathlib.Nat.{add-assoc, add-zero, zero-add}
 use lib.ListN.{length, getD, take, drop, length-take, length-drop, take-append-drop}
 use lib.Seq.{take-add, take-append-le, drop-append-le, drop-drop}
-use lib.Dec.{eqb}
-use borrow.Author.Tests.{eq-eqb, ne-eqb, eqb-true}
-use Rattle.base.proofs.Booleans.{and-left, and-right}
+use lib.Dec.{leb, eqb}
+use borrow.Author.Tests.{not-false, eq-eqb, ne-eqb, eqb-true, le-leb, lt-ltb}
+use Rattle.base.proofs.Booleans.{and-left, and-right, or-false}
 use Rattle.chunk.specs.declared.Entry.{Entry}
 use Rattle.chunk.specs.Header.{size, span, legal, headed, confirmed}
 use Rattle.chunk.specs.Reading.{entry, reading, listedWords, leftAt, listedAt}
 use Rattle.chunk.proofs.Headers.{headed-parts, confirmed-within}
 use Rattle.chunk_laws.specs.Stretch.{Laid, words, entries, whole as wholeChunk, wholeRow}
+use Rattle.chunk_laws.specs.Outside.{within, covered}
 use Rattle.chunk_laws.specs.Resync.{_∈_}
 use Rattle.chunk_laws.proofs.Tests.{and-both}
 use Rattle.chunk_laws.proofs.ByPlace.{listed-place}
@@ -29,8 +30,8 @@ use Rattle.frame.specs.Pieces.{framesAndStrays}
 use Rattle.frame.proofs.Joining.{joining-one, listedFrom}
 use Rattle.frame.proofs.Chunks.{payload-length}
 use Rattle.frame.proofs.Walking.{first-and-ahead, frame-ends-inside}
-use Rattle.frame_laws.specs.Local.{EndToEnd, Local, NoneEnds, StrayAfterGap}
-use Rattle.frame_laws.proofs.Pieces.{pick, pieces-one}
+use Rattle.frame.proofs.Stepping.{pick, pieces-one}
+use Rattle.frame_laws.specs.Local.{EndToEnd, Local, FramesLocal, StrayAfterGap}
 
 -- ---- the chunks that join
 
@@ -72,8 +73,8 @@ module _ (sync : ℕ) (ws : List ℕ) where
       let t = listed-place sync ws e h in
       record { word = t .1; confirms = and-right (eqb (leftAt sync 0 ws (e .position .0)) 0) _ (t .0) }
 
-  within : (e : Entry) → HeaderAt sync ws e → e .position .0 + span (e .header) ≤ length ws
-  within e s =
+  ends-within : (e : Entry) → HeaderAt sync ws e → e .position .0 + span (e .header) ≤ length ws
+  ends-within e s =
       let n : size (e .header) ≡ size (getD (drop (e .position .0) ws) 1 0) = ap size (s .word) in
       omega (arith, confirmed-within sync (drop (e .position .0) ws) (s .confirms), length-drop (e .position .0) ws)
 
@@ -116,7 +117,7 @@ module _ (sync : ℕ) (ws : List ℕ) where
       let h : ℕ = e .header in
       let t : HeaderAt sync ws e = s e (inl refl) in
       let l : legal h ≡ true = rw (t .word) (headed-parts sync (drop (e .position .0) ws) (and-left _ _ (t .confirms)) .2) in
-      let n : length (payloadOf ws e) ≡ size h = payload-length ws (e .position .0) h (within sync ws e t) in
+      let n : length (payloadOf ws e) ≡ size h = payload-length ws (e .position .0) h (ends-within sync ws e t) in
       and-both (wholeChunk (record { header = h; payload = payloadOf ws e })) _ (and-both (legal h) _ l (eq-eqb (length (payloadOf ws e)) (size h) n))
       (row-whole es (λ f i. s f (inr i)))
 
@@ -196,7 +197,7 @@ module _ (sync : ℕ) (ws : List ℕ) (s : startsFrame sync ws ≡ true) where
       ap (unitsOf own) same-chunks
       ∙ units-within (frameWords sync ws) ws (frame-ends-inside sync ws s) 0 fs end-to-end (omega arith)
 
-  pub local : Local sync ws
+  local : Local sync ws
   local = record {
     endToEnd = end-to-end;
     stops = λ n z. none-after-gap sync ws (suc n) 0 fs end-to-end frame-header-at (rw (zero-add (listedWords (take (suc n) fs))) z);
@@ -204,7 +205,33 @@ module _ (sync : ℕ) (ws : List ℕ) (s : startsFrame sync ws ≡ true) where
     sameUnits = same-units;
   }
 
+pub frames-local : FramesLocal
+unfolding listedAt
+frames-local sync ws p f =
+    let h : ℕ = getD (drop p ws) 1 0 in
+    let t : listedAt sync ws p && starts h ≡ true = not-false (listedAt sync ws p && starts h) f in
+    local sync (drop p ws)
+    (and-both (confirmed sync (drop p ws)) (starts h) (and-right (eqb (leftAt sync 0 ws p) 0) _ (and-left (listedAt sync ws p) _ t)) (and-right (listedAt sync ws p) _ t))
+
 -- ---- a continuation after a skipped word
+
+-- none of these chunks ends at the place p
+abbrev NoneEnds : ℕ → List Entry → Type 0
+NoneEnds p [] = Unit {0}
+NoneEnds p (e ∷ es) = (e .position .0 + span (e .header) ≡ p → ⊥) × NoneEnds p es
+
+-- a chunk that ends at p has the word before p
+none-ends : (p : ℕ) (before rest : List Entry) → ((k : ℕ) → p ≡ suc k → covered (before ++ rest) k ≡ false) → NoneEnds p before
+unfolding covered
+none-ends p [] rest g = tt
+none-ends p (f ∷ before) rest g = (
+  λ q.
+      let k : ℕ = f .position .0 + suc (size (f .header)) in
+      let e : p ≡ suc k = omega (arith, q) in
+      let w : within k f ≡ true = and-both (leb (f .position .0) k) _ (le-leb (f .position .0) k (omega arith)) (lt-ltb k (f .position .0 + span (f .header)) (omega arith)) in
+      false≢true (sym (g k e) ∙ ap (λ (b : Bool). b || covered (before ++ rest) k) w),
+  none-ends p before rest (λ k e. or-false (within k f) _ (g k e) .1),
+)
 
 module _ (e : Entry) (after : List Entry) (c : continues (e .header) ≡ true) where
   abbrev Apart : ℕ → Bool → List Entry → Type 0
@@ -236,5 +263,7 @@ module _ (e : Entry) (after : List Entry) (c : continues (e .header) ≡ true) w
               ap (λ (l : List Entry). f ∷ l) (more (f .position .0 + span (f .header)) (whole (f .header)) (elsewhere (whole (f .header)) _ refl))
           picks false y false q = more 0 false refl
 
-pub stray-after-gap : (sync : ℕ) (ws : List ℕ) → StrayAfterGap sync ws
-stray-after-gap sync ws before e after r c n = ap (framesAndStrays 0 false) r ∙ apart e after c 0 false before refl n
+pub stray-after-gap : StrayAfterGap
+stray-after-gap sync ws before e after r c n =
+    ap (framesAndStrays 0 false) r
+    ∙ apart e after c 0 false before refl (none-ends (e .position .0) before (e ∷ after) (λ k q. ap (λ (l : List Entry). covered l k) (sym r) ∙ n k q))
