@@ -12,6 +12,12 @@ and-right true b e = e
 and-right false true e = refl
 and-right false false e = e
 
+pub and-parts : (a b : Bool) → a && b ≡ true → (a ≡ true) × (b ≡ true)
+and-parts a b e = (and-left a b e, and-right a b e)
+
+pub and-both : (a b : Bool) → a ≡ true → b ≡ true → a && b ≡ true
+and-both a b p q = cc
+
 pub or-cases : (a b : Bool) → a || b ≡ true → (a ≡ true) ⊎ (b ≡ true)
 or-cases true b e = inl refl
 or-cases false b e = inr e

@@ -45,7 +45,7 @@ pub answer-yes : {A : Type 0} (v : ℕ) (f : ℕ → A) (a : A) → v ≡ 0 → 
 unfolding answer
 answer-yes v f a h = simp (eq-eqb v 0 h)
 
--- the number in a writer's reply
+-- the number in a writer's reply, and the length where nothing is refused
 pub settled-refusal : (v n : ℕ) → settled v n .refusal ≡ v
 unfolding settled answer
 settled-refusal v n = by-cases (eqb v 0) refl
@@ -53,3 +53,7 @@ settled-refusal v n = by-cases (eqb v 0) refl
     by-cases : (b : Bool) → eqb v 0 ≡ b → cond b (wrote 0 n) (wrote v 0) .refusal ≡ v
     by-cases true e = sym (eqb-true v 0 e)
     by-cases false e = refl
+
+pub settled-length : (v n : ℕ) → v ≡ 0 → settled v n .length .0 ≡ n
+unfolding settled answer
+settled-length v n e = rw (eq-eqb v 0 e)

@@ -5,6 +5,7 @@ use native.Mathlib.Nat.{mod-lt, not-suc-le-zero, le-of-suc-le-suc}
 use lib.Dec.{lit<}
 use lib.Arith.{bin-ind, digits-div, digits-mod}
 use lib.Bits.{differ, xor-step, xor-comm, xor-self, xor-shr, xor-mod}
+use Rattle.base.specs.Number.{bitOf}
 use Rattle.base.specs.Xor.{_⊕_}
 
 differ-lt : (x y : ℕ) → x < 2 → y < 2 → differ x y < 2
@@ -56,5 +57,5 @@ pub xor-cancel : (a b : ℕ) → a ⊕ (a ⊕ b) ≡ b
 xor-cancel a b = sym (xor-assoc a a b) ∙ ap (λ (n : ℕ). n ⊕ b) (xor-self a)
 
 -- bit k of an exclusive-or is that of the two bits
-pub xor-bit : (k a b : ℕ) → (a ⊕ b) / 2 ^ k % 2 ≡ a / 2 ^ k % 2 ⊕ b / 2 ^ k % 2
+pub xor-bit : (k a b : ℕ) → bitOf (a ⊕ b) k ≡ bitOf a k ⊕ bitOf b k
 xor-bit k a b = ap (λ (n : ℕ). n % 2) (xor-shr a b k) ∙ xor-mod (a / 2 ^ k) (b / 2 ^ k) 1

@@ -1,4 +1,4 @@
--- FORMAT, "Words, bytes and bits": the bytes and the bits of a word.
+-- FORMAT, "Words, bytes and bits": the bytes and the bits of a word, each said once for all crates.
 use Prim.Native.Nat.{ℕ, _+_, _*_, _/_, _%_, _^_}
 use mathlib.Core.Bool.{Bool}
 use lib.Dec.{eqb}
@@ -14,9 +14,13 @@ abbrev pub lowByte : ℕ → ℕ
 lowByte w = w % 256
 
 -- bit b of a word, where bit 15 is the most significant
-unfoldable pub bitOf : ℕ → ℕ → ℕ
+abbrev pub bitOf : ℕ → ℕ → ℕ
 bitOf w b = w / 2 ^ b % 2
 
 -- it is 1
 abbrev pub bitSet : ℕ → ℕ → Bool
-bitSet w b = eqb (w / 2 ^ b % 2) 1
+bitSet w b = eqb (bitOf w b) 1
+
+-- the low sixteen bits of a number
+abbrev pub lowWord : ℕ → ℕ
+lowWord n = n % 2 ^ 16

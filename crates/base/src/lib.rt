@@ -1,4 +1,4 @@
-// What every other crate stands on: the two kinds of count, the refusal numbers, and writing into lent room.
+// What every other crate stands on: the two kinds of count, sizes and limits, the refusal numbers, and the parts of a word.
 pub mod limit;
 pub mod number;
 pub mod refusal;

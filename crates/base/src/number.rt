@@ -1,7 +1,6 @@
 // Numbers of one width and another, and a choice between two tests.
 ghost use mathlib.Core.Path.{_≡_};
 ghost use mathlib.Core.Bool.{cond};
-ghost use Prim.Native.Nat.{_%_, _^_};
 ghost use Rattle.base.specs.Number as number;
 
 // The word of two bytes.
@@ -25,7 +24,7 @@ pub fn low_byte(word: u16) -> u8
 
 // The low sixteen bits.
 pub fn low_word(x: u64) -> u16
-    ensures { λ r. ⌜ r ≡ x % 2 ^ 16 ⌝ }
+    ensures { λ r. ⌜ r ≡ number.lowWord x ⌝ }
 {
     (x & 0xffff) as u16
 }

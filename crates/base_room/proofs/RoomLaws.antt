@@ -1,13 +1,15 @@
 -- Lent room after a write, and a part of a lent slice: two writes end to end are one.
-use mathlib.Core.Path.{_≡_, refl, sym, ap, _∙_}
+use mathlib.Core.Path.{_≡_, refl, sym, ap, ap₂, _∙_}
 use mathlib.Core.Bool.{Bool, true, false, cond}
 use mathlib.Core.List.{List, _++_, append-assoc}
 use Prim.Native.Nat.{ℕ, _+_, _-_, _≤_, _<_}
 use native.Mathlib.Omega.{arith}
 use lib.ListN.{length, take, drop, length-append, length-drop}
-use lib.Seq.{take-at, drop-at, drop-drop, length-take-le, take-all}
+use lib.Seq.{take-append-seam, take-at, drop-at, drop-drop, length-take-le, take-all}
 use lib.Dec.{leb}
 use borrow.Author.Tests.{le-leb, lt-leb, leb-true}
+use Rattle.base.specs.Refusal.{answer, settled}
+use Rattle.base.proofs.Refused.{answer-yes, settled-refusal, settled-length}
 use Rattle.base_room.specs.Room.{put}
 
 pub put-fits : (s : List ℕ) (at : ℕ) (d : List ℕ) → at + length s ≤ length d → put s at d ≡ take at d ++ s ++ drop (at + length s) d
@@ -48,6 +50,17 @@ put-put s t at d h =
     ∙ ap (λ (x : List ℕ). x ++ drop (at + length s + length t) d) (append-assoc (take at d) s t)
     ∙ ap (λ (m : ℕ). take at d ++ (s ++ t) ++ drop m d) e
     ∙ sym (put-fits (s ++ t) at d (omega arith))
+
+-- what was written to the front of the room stands there
+pub put-front : (s d : List ℕ) → length s ≤ length d → take (length s) (put s 0 d) ≡ s
+put-front s d h = ap (take (length s)) (put-fits s 0 d (omega arith)) ∙ take-append-seam s (drop (0 + length s) d)
+
+-- what a writer that accepts left at the front of the room, as many words as it answers, is what it writes
+pub writer-left : (v : ℕ) (s room : List ℕ) → length s ≤ length room → settled v (length s) .refusal ≡ 0
+    → take (settled v (length s) .length .0) (answer v (λ x. room) (put s 0 room)) ≡ s
+writer-left v s room h z =
+    let e : v ≡ 0 = sym (settled-refusal v (length s)) ∙ z in
+    ap₂ take (settled-length v (length s) e) (answer-yes v (λ x. room) (put s 0 room) e) ∙ put-front s room h
 
 -- a part from a place on is what stands there up to the end
 pub to-end : (n : ℕ) (ws : List ℕ) → take (length ws - n) (drop n ws) ≡ drop n ws

@@ -1,39 +1,22 @@
--- Laws of messages. A message's CRC goes on from its first part's. The register keeps to 16 bits. A word is its two bytes.
+-- Laws of messages. A message's CRC goes on from its first part's. A word is its two bytes.
 use mathlib.Core.Path.{_≡_, refl, sym, ap, _∙_}
 use mathlib.Core.List.{List, [], _∷_, _++_, foldl-append}
-use Prim.Native.Nat.{ℕ, zero, suc, _*_, _/_, _%_, _^_, _<_}
-use native.Mathlib.Nat.{mod-lt, not-suc-le-zero, div-add-mod'}
+use Prim.Native.Nat.{ℕ, _*_, _/_, _%_, _^_, _<_}
+use native.Mathlib.Nat.{mod-lt, div-add-mod'}
 use native.Mathlib.Omega.{arith}
 use lib.Dec.{lit<}
-use lib.Bits.{xor-lt, xor-shifted}
+use lib.Bits.{xor-shifted}
 use Rattle.base.specs.Xor.{_⊕_}
 use Rattle.base.specs.Number.{word}
 use Rattle.base.proofs.XorLaws.{xor-assoc}
 use Rattle.base.proofs.Linear.{shl-in}
 use Rattle.crc_division.proofs.Powers.{by-powers}
 use Rattle.crc_division.proofs.Linear.{bits-linear, word-step}
-use Rattle.crc.specs.Crc.{crcPolynomial, crcBit, crcBits, crcStep, crcOver, crcWords, crcBytes, bytesOf}
+use Rattle.crc.specs.Crc.{crcBit, crcBits, crcStep, crcOver, crcWords, crcBytes, bytesOf}
 
 -- two messages in a row
 pub crc-append : (width r : ℕ) (m n : List ℕ) → crcOver width r (m ++ n) ≡ crcOver width (crcOver width r m) n
 crc-append width r m n = foldl-append (crcStep width) r m n
-
--- ---- the register keeps to 16 bits
-
-bit-lt : (r : ℕ) → crcBit r < 65536
-unfolding crcBit
-bit-lt r =
-    let h : r / 32768 % 2 < 2 = mod-lt (r / 32768) (lit< tt) in
-    xor-lt 16 (r / 32768 % 2 * crcPolynomial) (r * 2 % 65536) (omega arith) (mod-lt (r * 2) (lit< tt))
-
-step-lt : (width r x : ℕ) → 0 < width → crcStep width r x < 65536
-unfolding crcStep
-step-lt zero r x h = absurd (not-suc-le-zero h)
-step-lt (suc n) r x h = bit-lt _
-
-pub crc-lt : (width r : ℕ) (m : List ℕ) → 0 < width → r < 65536 → crcOver width r m < 65536
-crc-lt width r [] h k = k
-crc-lt width r (x ∷ m) h k = crc-lt width (crcStep width r x) m h (step-lt width r x h)
 
 -- ---- a word is its two bytes
 

@@ -1,6 +1,7 @@
 -- FORMAT, "CRC": polynomial 1021h, most significant bit first, register start FFFFh, no final change.
 use mathlib.Core.List.{List, [], _∷_, foldl}
-use Prim.Native.Nat.{ℕ, zero, suc, _*_, _/_, _%_, _-_, _^_}
+use Prim.Native.Nat.{ℕ, zero, suc, _*_, _-_, _^_}
+use Rattle.base.specs.Number.{highByte, lowByte, bitOf, lowWord}
 use Rattle.base.specs.Xor.{_⊕_}
 
 -- the register at the start
@@ -13,7 +14,7 @@ crcPolynomial = 0x1021
 
 -- one bit: the register moves left by one, and where bit 15 was set the polynomial is exclusive-ored in
 unfoldable pub crcBit : ℕ → ℕ
-crcBit r = (r / 32768 % 2 * crcPolynomial) ⊕ (r * 2 % 65536)
+crcBit r = (bitOf r 15 * crcPolynomial) ⊕ lowWord (r * 2)
 
 -- n bits
 abbrev pub crcBits : ℕ → ℕ → ℕ
@@ -34,7 +35,7 @@ crcWords = crcOver 16
 abbrev pub crcBytes : ℕ → List ℕ → ℕ
 crcBytes = crcOver 8
 
--- the bytes of a message of words: files hold words high byte first
+-- the bytes of a message of words, the high byte of each first
 abbrev pub bytesOf : List ℕ → List ℕ
 bytesOf [] = []
-bytesOf (w ∷ m) = w / 256 ∷ w % 256 ∷ bytesOf m
+bytesOf (w ∷ m) = highByte w ∷ lowByte w ∷ bytesOf m

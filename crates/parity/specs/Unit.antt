@@ -5,13 +5,14 @@ use Prim.Native.Nat.{ℕ, zero, suc, _+_, _-_, _*_, _/_, _%_, _^_}
 use lib.Dec.{leb, ltb, eqb}
 use lib.ListN.{length, getD, set, drop}
 use Rattle.base.specs.Xor.{_⊕_}
+use Rattle.base.specs.Size.{parityWidth, dataWidth, unitWidth}
 use Rattle.base_room.specs.Room.{put}
 use Rattle.base.specs.Refusal.{Causes, verdict, answer, settled, wrongLength, wrongParity, noRoom}
 use Rattle.base.specs.declared.Written.{Written}
 use Rattle.parity.specs.declared.Judged.{Judged}
 use Rattle.parity_rows.specs.Parity.{bitFrom, rowParity, columnParity, parityWords}
 
--- a unit is 8 parity words, then the data words
+-- a unit is its parity words, then the data words
 unfoldable pub unitOf : List ℕ → List ℕ
 unitOf d = parityWords d ++ d
 
@@ -24,10 +25,10 @@ flipped ws w b = set ws w (getD ws w 0 ⊕ 2 ^ b)
 -- 1 where the parity that the unit has for row r, or for column c, differs from that of its data, else 0: the rows' parity is in the
 -- parity words from word 0 on, the columns' in those from word 4 on
 unfoldable pub rowDiffers : List ℕ → ℕ → ℕ
-rowDiffers u r = bitFrom u 0 r ⊕ rowParity (drop 8 u) r
+rowDiffers u r = bitFrom u 0 r ⊕ rowParity (drop parityWidth u) r
 
 unfoldable pub columnDiffers : List ℕ → ℕ → ℕ
-columnDiffers u c = bitFrom u 4 c ⊕ columnParity (drop 8 u) c
+columnDiffers u c = bitFrom u 4 c ⊕ columnParity (drop parityWidth u) c
 
 -- f 0 + f 1 + .. + f (n - 1): how many of them are 1
 unfoldable pub sumAll : ℕ → (ℕ → ℕ) → ℕ
@@ -65,7 +66,7 @@ fiveCases R C row column k =
 unfoldable pub finding : List ℕ → Finding
 finding u =
     fiveCases (sumAll 64 (rowDiffers u)) (sumAll 64 (columnDiffers u)) (firstOf 64 (rowDiffers u)) (firstOf 64 (columnDiffers u))
-    (length u - 8)
+    (length u - parityWidth)
 
 -- the data as they stand, but a data bit that was hit is flipped back
 abbrev pub repaired : Finding → List ℕ → List ℕ
@@ -76,13 +77,13 @@ repaired neither d = d
 
 -- the data of a unit
 unfoldable pub unitData : List ℕ → List ℕ
-unitData u = repaired (finding u) (drop 8 u)
+unitData u = repaired (finding u) (drop parityWidth u)
 
 -- ---- the judge
 
--- a unit has 9 to 264 words
+-- a unit has 9 to 264 words: its parity words, and 1 to 256 data words
 abbrev pub notUnit : ℕ → Bool
-notUnit n = not (leb 9 n && leb n 264)
+notUnit n = not (leb (parityWidth + 1) n && leb n unitWidth)
 
 abbrev pub isNeither : Finding → Bool
 isNeither sound = false
@@ -111,33 +112,33 @@ named (dataBit w b) k = reply 0 2 w b k
 named neither k = refused wrongParity
 
 unfoldable pub judgeReply : List ℕ → Judged
-judgeReply u = answer (judgeVerdict u) refused (named (finding u) (length u - 8))
+judgeReply u = answer (judgeVerdict u) refused (named (finding u) (length u - parityWidth))
 
 -- ---- the checker: the judge's answer, or 3 where the room has fewer than k words; the data go to the room
 
 abbrev pub checkCauses : List ℕ → ℕ → Causes
-checkCauses u room = judgeCauses u ++ (noRoom, ltb room (length u - 8)) ∷ []
+checkCauses u room = judgeCauses u ++ (noRoom, ltb room (length u - parityWidth)) ∷ []
 
 unfoldable pub checkVerdict : List ℕ → ℕ → ℕ
 checkVerdict u room = verdict (checkCauses u room)
 
 unfoldable pub checkReply : List ℕ → ℕ → Judged
-checkReply u room = answer (checkVerdict u room) refused (named (finding u) (length u - 8))
+checkReply u room = answer (checkVerdict u room) refused (named (finding u) (length u - parityWidth))
 
 unfoldable pub checkRoom : List ℕ → List ℕ → List ℕ
 checkRoom u room = answer (checkVerdict u (length room)) (λ v. room) (put (unitData u) 0 room)
 
 -- ---- the writer
 
--- data of 1 to 256 words, and room for them and the 8 parity words
+-- data of 1 to 256 words, and room for them and the parity words
 abbrev pub writeCauses : ℕ → ℕ → Causes
-writeCauses k room = (wrongLength, not (leb 1 k && leb k 256)) ∷ (noRoom, ltb room (8 + k)) ∷ []
+writeCauses k room = (wrongLength, not (leb 1 k && leb k dataWidth)) ∷ (noRoom, ltb room (parityWidth + k)) ∷ []
 
 unfoldable pub writeVerdict : ℕ → ℕ → ℕ
 writeVerdict k room = verdict (writeCauses k room)
 
 unfoldable pub writeReply : ℕ → ℕ → Written
-writeReply k room = settled (writeVerdict k room) (8 + k)
+writeReply k room = settled (writeVerdict k room) (parityWidth + k)
 
 unfoldable pub writeRoom : List ℕ → List ℕ → List ℕ
 writeRoom d room = answer (writeVerdict (length d) (length room)) (λ v. room) (put (unitOf d) 0 room)

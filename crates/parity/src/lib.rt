@@ -2,6 +2,9 @@
 use base::Words;
 use base::Written;
 use base::refusal;
+use base::size::DATA;
+use base::size::PARITY;
+use base::size::UNIT;
 ghost use mathlib.Core.Path.{_≡_};
 ghost use Prim.Native.Nat.{_-_, _%_, _≤_};
 ghost use lib.ListN.{length};
@@ -74,14 +77,15 @@ pub fn judge_unit(unit: &[u16]) -> Judged
     ensures { λ r. ⌜ r ≡ judgeReply (now (unit .entry)) ⌝ }
 {
     let n = unit.len();
-    if !((9 <= n) & (n <= 264)) {
+    let first = PARITY.0;
+    if !((first + 1 <= n) & (n <= UNIT.0)) {
         return refused(refusal::LENGTH);
     }
     let stated = parity_rows::stated(unit);
-    let found = parity_rows::parity(&unit[8..]);
+    let found = parity_rows::parity(&unit[first..]);
     let rows = stated.rows ^ found.rows;
     let columns = stated.columns ^ found.columns;
-    let k = Words(n - 8);
+    let k = Words(n - first);
     five_cases(
         u64::count_ones(rows),
         u64::count_ones(columns),
@@ -114,7 +118,8 @@ pub fn check_unit(unit: &[u16], room: &mut [u16]) -> Judged
     if r.refusal != 0 {
         return r;
     }
-    base_room::put_words(&unit[8..], room, Words(0));
+    let start = PARITY.0;
+    base_room::put_words(&unit[start..], room, Words(0));
     if r.case != 2 {
         return r;
     }
@@ -131,10 +136,10 @@ fn plan(data: &[u16], room: Words) -> Written
     refusal::settle(
         refusal::cause(
             refusal::LENGTH,
-            !((1 <= k) & (k <= 256)),
-            refusal::cause(refusal::ROOM, room.0 < 8 + k, 0),
+            !((1 <= k) & (k <= DATA.0)),
+            refusal::cause(refusal::ROOM, room.0 < PARITY.0 + k, 0),
         ),
-        Words(8 + k),
+        Words(PARITY.0 + k),
     )
 }
 

@@ -13,12 +13,12 @@ use lib.ListN.{length, getD, drop}
 use lib.Seq.{getD-set-same, getD-set-other, getD-drop}
 use borrow.Author.Tests.{eq-eqb, ne-eqb, eqb-true, eqb-false, ltb-true, ltb-false}
 use Rattle.base.specs.Xor.{_⊕_}
-use Rattle.base.proofs.XorLaws.{xor-swap}
+use Rattle.base.proofs.XorLaws.{xor-swap, xor-bit}
 use Rattle.base.specs.Number.{bitOf}
 use Rattle.parity_rows.specs.Parity.{xorAll, number, bitFrom, rowParity, columnParity, rowWord, columnWord, parityWords}
 use Rattle.parity.specs.Unit.{unitOf, flipped, rowDiffers, columnDiffers}
 use Rattle.parity_rows.proofs.Folds.{xor-cong, xor-add, number-parts, number-lt, number-more}
-use Rattle.parity_rows.proofs.Words.{digit, bit-linear, from-digit}
+use Rattle.parity_rows.proofs.Words.{digit, from-digit}
 use Rattle.parity_rows.proofs.ByRows.{row-lt, column-lt}
 use Rattle.parity_laws.proofs.Spot.{one, spot, same-test}
 
@@ -32,7 +32,6 @@ high-bit q m = ap (λ (x : ℕ). x / 2 ^ q % 2) (pow-add 2 q m ∙ mul-comm (2 ^
     by-size (suc n) = ap (λ (x : ℕ). x % 2) (pow-suc 2 n) ∙ mul-mod-left (2 ^ n) 2 ∙ sym (ap one (ne-eqb (suc n) 0 (λ e. omega arith)))
 
 power-bit : (b q : ℕ) → bitOf (2 ^ b) q ≡ spot b q
-unfolding bitOf
 power-bit b q = by-test (ltb b q) refl
   where
     by-test : (t : Bool) → ltb b q ≡ t → 2 ^ b / 2 ^ q % 2 ≡ spot b q
@@ -63,9 +62,8 @@ module _ (u : List ℕ) (i b : ℕ) (h : i < length u) where
       by-test false e = getD-set-other u i j (getD u i 0 ⊕ 2 ^ b) 0 (λ z. eqb-false i j e (sym z)) ∙ sym (xor-zero-r (getD u j 0))
 
   flip-bit : (j q : ℕ) → bitOf (getD (flipped u i b) j 0) q ≡ bitOf (getD u j 0) q ⊕ one (eqb i j && eqb b q)
-  unfolding bitOf
   flip-bit j q =
-      ap (λ (x : ℕ). bitOf x q) (flip-word j) ∙ bit-linear q (getD u j 0) (cond (eqb i j) (2 ^ b) 0) ∙ ap (λ (x : ℕ). bitOf (getD u j 0) q ⊕ x) (there (eqb i j))
+      ap (λ (x : ℕ). bitOf x q) (flip-word j) ∙ xor-bit q (getD u j 0) (cond (eqb i j) (2 ^ b) 0) ∙ ap (λ (x : ℕ). bitOf (getD u j 0) q ⊕ x) (there (eqb i j))
     where
       there : (t : Bool) → bitOf (cond t (2 ^ b) 0) q ≡ one (t && eqb b q)
       there true = power-bit b q
@@ -113,7 +111,6 @@ module _ (u : List ℕ) (i b : ℕ) (h : i < length u) where
 
 -- digit i of a number is what it was made of
 number-digit : (f : ℕ → ℕ) → ((i : ℕ) → f i < 2) → (i : ℕ) → i < 16 → digit (number 16 f) i ≡ f i
-unfolding bitOf
 number-digit f bits i h =
     let n : suc i + (15 - i) ≡ 16 = omega arith in
     ap (λ (m : ℕ). number m f / 2 ^ (15 - i) % 2) (sym n)

@@ -7,9 +7,10 @@ use lib.Dec.{eqb}
 use lib.Bits.{xor-zero-l, xor-zero-r}
 use borrow.Author.Tests.{eq-eqb, ne-eqb, eqb-true}
 use Rattle.base.specs.Xor.{_⊕_}
+use Rattle.base.proofs.Booleans.{and-parts, and-both}
 use Rattle.parity_rows.specs.Parity.{xorAll}
 use Rattle.parity_rows.proofs.Folds.{xor-cong, xor-none}
-use Rattle.parity_laws.proofs.Spot.{one, spot, xor-when, same-test, and-both, both-and}
+use Rattle.parity_laws.proofs.Spot.{one, spot, xor-when, same-test}
 use Rattle.parity_laws.proofs.Flips.{sameBit, rowFlip, columnFlip}
 
 -- a bit of another word
@@ -23,11 +24,11 @@ parity-place i b w n h hb =
     ap one
     (same-test (sameBit i b w n) (eqb p n)
     (λ z.
-    let s = and-both (eqb i (w + n / 16)) (eqb b (15 - n % 16)) z in
+    let s = and-parts (eqb i (w + n / 16)) (eqb b (15 - n % 16)) z in
     eq-eqb p n (omega (arith, eqb-true i (w + n / 16) (s .0), eqb-true b (15 - n % 16) (s .1))))
     (λ z.
     let e : p ≡ n = eqb-true p n z in
-    both-and (eqb i (w + n / 16)) (eqb b (15 - n % 16)) (eq-eqb i (w + n / 16) (omega arith)) (eq-eqb b (15 - n % 16) (omega arith))))
+    and-both (eqb i (w + n / 16)) (eqb b (15 - n % 16)) (eq-eqb i (w + n / 16) (omega arith)) (eq-eqb b (15 - n % 16) (omega arith))))
 
 -- in the data: word 8 + w is in row w / 4
 module _ (w b : ℕ) (hb : b < 16) where
@@ -38,15 +39,15 @@ module _ (w b : ℕ) (hb : b < 16) where
   data-place r c h =
       same-test (sameBit (8 + w) b (8 + 4 * r) c) (eqb (w / 4) r && eqb column c)
       (λ z.
-      let s = and-both (eqb (8 + w) (8 + 4 * r + c / 16)) (eqb b (15 - c % 16)) z in
+      let s = and-parts (eqb (8 + w) (8 + 4 * r + c / 16)) (eqb b (15 - c % 16)) z in
       let x = eqb-true (8 + w) (8 + 4 * r + c / 16) (s .0) in
       let y = eqb-true b (15 - c % 16) (s .1) in
-      both-and (eqb (w / 4) r) (eqb column c) (eq-eqb (w / 4) r (omega (arith, x))) (eq-eqb column c (omega (arith, x, y))))
+      and-both (eqb (w / 4) r) (eqb column c) (eq-eqb (w / 4) r (omega (arith, x))) (eq-eqb column c (omega (arith, x, y))))
       (λ z.
-      let s = and-both (eqb (w / 4) r) (eqb column c) z in
+      let s = and-parts (eqb (w / 4) r) (eqb column c) z in
       let x = eqb-true (w / 4) r (s .0) in
       let y = eqb-true column c (s .1) in
-      both-and (eqb (8 + w) (8 + 4 * r + c / 16)) (eqb b (15 - c % 16)) (eq-eqb (8 + w) (8 + 4 * r + c / 16) (omega (arith, x, y))) (eq-eqb b (15 - c % 16) (omega (arith, x, y))))
+      and-both (eqb (8 + w) (8 + 4 * r + c / 16)) (eqb b (15 - c % 16)) (eq-eqb (8 + w) (8 + 4 * r + c / 16) (omega (arith, x, y))) (eq-eqb b (15 - c % 16) (omega (arith, x, y))))
 
   pub data-flip-row : (r : ℕ) → r < 64 → rowFlip (8 + w) b r ≡ spot (w / 4) r
   data-flip-row r h =

@@ -9,15 +9,14 @@ use native.Mathlib.Omega.{arith}
 use lib.Dec.{ltb}
 use lib.Bits.{xor-zero-l, xor-zero-r, xor-self}
 use lib.ListN.{length, getD, set, take, drop, length-set}
-use lib.Seq.{take-append-seam, drop-set-lt, drop-set-add, getD-drop, getD-set-same, set-set, set-getD}
+use lib.Seq.{drop-set-lt, drop-set-add, getD-drop, getD-set-same, set-set, set-getD}
 use borrow.Author.Tests.{le-leb, lt-ltb, ltb-true, ltb-false}
 use Rattle.base.specs.Xor.{_⊕_}
 use Rattle.base_room.specs.Room.{put}
 use Rattle.base.proofs.XorLaws.{xor-assoc}
-use Rattle.base.specs.Refusal.{settled, wrote}
-use Rattle.base.specs.declared.Written.{Written}
+use Rattle.base.specs.Refusal.{settled}
 use Rattle.base.proofs.Refused.{spared, answer-yes, settled-refusal}
-use Rattle.base_room.proofs.RoomLaws.{put-fits}
+use Rattle.base_room.proofs.RoomLaws.{writer-left}
 use Rattle.parity.specs.declared.Judged.{Judged}
 use Rattle.parity.specs.Unit.{unitOf, flipped, rowDiffers, columnDiffers, sumAll, firstOf, Finding, sound, parityBit, dataBit, neither, fiveCases, finding, repaired, unitData, reply, named, judgeVerdict, judgeReply, checkReply, checkRoom, writeCauses, writeVerdict, writeReply, writeRoom}
 use Rattle.parity.proofs.Judging.{between, judgement, judged-refusal, checked-refusal, accepted-as-judged}
@@ -244,12 +243,11 @@ module _ (d room : List ℕ) (a : Accepted d room) where
   unit-fits = ltb-false (length room) (8 + length d) (spared (writeCauses (length d) (length room)) refl no-cause .1 .0)
 
   unit-written : written d room ≡ unitOf d
-  unfolding writeReply writeRoom settled
+  unfolding writeReply writeRoom
   unit-written =
-      let n = unit-length d in
-      ap₂ take (ap (λ (r : Written). r .length .0) (answer-yes verdictThere _ (wrote 0 (8 + length d)) no-cause) ∙ sym n)
-      (answer-yes verdictThere (λ v. room) (put (unitOf d) 0 room) no-cause ∙ put-fits (unitOf d) 0 room (omega (arith, unit-fits)))
-      ∙ take-append-seam (unitOf d) (drop (0 + length (unitOf d)) room)
+      let u = unitOf d in
+      ap (λ (n : ℕ). take (settled verdictThere n .length .0) (writeRoom d room)) (sym (unit-length d))
+      ∙ writer-left verdictThere u room (omega (arith, unit-fits, unit-length d)) (settled-refusal verdictThere (length u) ∙ no-cause)
 
 pub written-is-sound : WrittenIsSound
 written-is-sound d room a = rw (unit-written d room a) (answers (written-repaired d (data-fit d room a)))

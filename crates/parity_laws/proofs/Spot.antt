@@ -74,14 +74,6 @@ same-test true t f g = sym (f refl)
 same-test false true f g = g refl
 same-test false false f g = refl
 
-pub and-both : (s t : Bool) → s && t ≡ true → (s ≡ true) × (t ≡ true)
-and-both true t e = (refl, e)
-and-both false true e = (e, refl)
-and-both false false e = (e, e)
-
-pub both-and : (s t : Bool) → s ≡ true → t ≡ true → s && t ≡ true
-both-and s t p q = cc
-
 -- with a test that does not depend on the place
 pub xor-when : (n p : ℕ) (t : Bool) → p < n → xorAll n (λ i. one (t && eqb p i)) ≡ one t
 xor-when n p true h = xor-spot n p h

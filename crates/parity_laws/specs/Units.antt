@@ -6,6 +6,7 @@ use mathlib.Core.Bool.{cond}
 use mathlib.Core.List.{List, [], _∷_}
 use lib.ListN.{length, take}
 use lib.Dec.{ltb}
+use Rattle.base.specs.Size.{parityWidth, dataWidth}
 use Rattle.base_room.specs.Room.{put}
 use Rattle.parity.specs.Unit.{unitOf, flipped, judgeVerdict, unitData, reply, judgeReply, checkReply, checkRoom, writeReply, writeRoom}
 
@@ -27,16 +28,16 @@ pub record Answers (u d : List ℕ) (case word bit : ℕ) : Type 0 where
 abbrev pub WrittenIsSound : Type 0
 WrittenIsSound = (d room : List ℕ) → Accepted d room → Answers (written d room) d 0 0 0
 
--- One bit b of any of its words w flipped: a bit of the 8 parity words, or of the data words after them, and it is named.
+-- One bit b of any of its words w flipped: a bit of the parity words, or of the data words after them, and it is named.
 abbrev pub OneFlipIsRepaired : Type 0
 OneFlipIsRepaired = (d room : List ℕ) → Accepted d room → (w b : ℕ) → w < length (written d room) → b < 16
-    → Answers (flipped (written d room) w b) d (cond (ltb w 8) 1 2) (cond (ltb w 8) w (w - 8)) b
+    → Answers (flipped (written d room) w b) d (cond (ltb w parityWidth) 1 2) (cond (ltb w parityWidth) w (w - parityWidth)) b
 
 -- ---- many units
 
 -- data that a unit is written for
 abbrev pub Fits : List ℕ → Type 0
-Fits d = (1 ≤ length d) × (length d ≤ 256)
+Fits d = (1 ≤ length d) × (length d ≤ dataWidth)
 
 -- each of these units is accepted, and holds the data beside it
 abbrev pub Hold : List (List ℕ) → List (List ℕ) → Type 0
@@ -49,7 +50,7 @@ Hold (u ∷ us) (d ∷ ds) = (judgeVerdict u ≡ 0) × (unitData u ≡ d) × Hol
 pub data Arrived : List (List ℕ) → List (List ℕ) → Type 0 where
   none : Arrived [] []
   whole : {us ds : List (List ℕ)} (d : List ℕ) → Fits d → Arrived us ds → Arrived (unitOf d ∷ us) (d ∷ ds)
-  hurt : {us ds : List (List ℕ)} (d : List ℕ) → Fits d → (w b : ℕ) → w < 8 + length d → b < 16 → Arrived us ds
+  hurt : {us ds : List (List ℕ)} (d : List ℕ) → Fits d → (w b : ℕ) → w < parityWidth + length d → b < 16 → Arrived us ds
       → Arrived (flipped (unitOf d) w b ∷ us) (d ∷ ds)
 
 -- they hold their data

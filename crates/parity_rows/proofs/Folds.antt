@@ -42,7 +42,7 @@ xor-parts n (suc m) f =
 
 pub number-parts : (n m : ℕ) (f : ℕ → ℕ) → number (n + m) f ≡ number n f * 2 ^ m + number m (λ i. f (n + i))
 unfolding number
-number-parts n zero f = rw add-zero (sym (add-zero (number n f * 1) ∙ mul-one (number n f)))
+number-parts n zero f = rw (add-zero n) (sym (add-zero (number n f * 1) ∙ mul-one (number n f)))
 number-parts n (suc m) f =
     rw add-suc
     (ap (λ (x : ℕ). x * 2 + f (n + m)) (number-parts n m f)

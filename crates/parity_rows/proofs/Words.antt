@@ -9,23 +9,17 @@ use lib.Dec.{eqb, eqb→eq, lit<}
 use lib.ListN.{length, replicate, getD, List·getD-eq-default}
 use Rattle.base.specs.Number.{bitOf}
 use Rattle.base.proofs.XorLaws.{xor-bit}
-use Rattle.base.proofs.Linear.{Linear, agree, same}
+use Rattle.base.proofs.Linear.{agree, same}
 use Rattle.base.proofs.Every.{at}
 use Rattle.parity_rows.specs.Parity.{number, bitFrom}
 use Rattle.parity_rows.specs.ByRows.{pack}
 use Rattle.parity_rows.proofs.Folds.{number-linear, number-cong, number-parts}
 
 pub bit-lt : (w b : ℕ) → bitOf w b < 2
-unfolding bitOf
 bit-lt w b = mod-lt (w / 2 ^ b) (lit< tt)
 
 zero-bit : (w b : ℕ) → w ≡ 0 → bitOf w b ≡ 0
-unfolding bitOf
 zero-bit w b e = ap (λ (x : ℕ). x / 2 ^ b % 2) e ∙ ap (λ (x : ℕ). x % 2) (zero-div (2 ^ b))
-
-pub bit-linear : (b : ℕ) → Linear (λ w. bitOf w b)
-unfolding bitOf
-bit-linear b = xor-bit b
 
 -- digit i of a word, the top one first
 abbrev pub digit : ℕ → ℕ → ℕ
@@ -36,9 +30,9 @@ right : ℕ → ℕ → Bool
 right i x = eqb (number 16 (digit (2 ^ i))) (2 ^ i)
 
 word-bits : (w : ℕ) → w < 65536 → number 16 (digit w) ≡ w
-unfolding right number bitOf
+unfolding right number
 word-bits w h =
-    agree (λ w. number 16 (digit w)) (λ w. w) (number-linear 16 (λ i w. digit w i) (λ i w. bit-lt w (15 - i)) (λ i. bit-linear (15 - i))) same 16
+    agree (λ w. number 16 (digit w)) (λ w. w) (number-linear 16 (λ i w. digit w i) (λ i w. bit-lt w (15 - i)) (λ i. xor-bit (15 - i))) same 16
     (λ i p. eqb→eq (number 16 (digit (2 ^ i))) (2 ^ i) (at right (replicate 16 0) tt i p)) w h
 
 -- ---- the bits of words one after the other

@@ -5,11 +5,11 @@ use mathlib.Core.Bool.{Bool, true, false}
 use mathlib.Core.List.{List, [], _∷_, _++_}
 use Prim.Native.Nat.{ℕ, _+_, _-_, _≤_, _<_, min}
 use native.Mathlib.Omega.{arith}
-use lib.ListN.{length, take, drop, length-take, length-drop, length-append}
+use lib.ListN.{length, take, drop, length-take, length-drop}
 use lib.Dec.{eqb, ltb}
 use borrow.Author.Tests.{eqb-true, eqb-false, le-ltb, le-leb, lt-leb}
 use borrow.Rule.Slice.PartMut.{putMid}
-use Rattle.base.specs.Refusal.{verdict, answer, noRoom}
+use Rattle.base.specs.Refusal.{verdict, noRoom}
 use Rattle.base_room.specs.Room.{put}
 use Rattle.base.proofs.Refused.{spared, answer-yes, answer-no, verdict-kept}
 use Rattle.base_room.proofs.RoomLaws.{put-fits}

@@ -5,17 +5,18 @@ use mathlib.Core.Bool.{Bool, false, _||_}
 use mathlib.Core.List.{List, [], _∷_, _++_}
 use lib.ListN.{length, take, drop}
 use lib.Dec.{eqb}
+use Rattle.base.specs.Size.{parityWidth, dataWidth, unitWidth}
 use Rattle.base.specs.Refusal.{answer, wrongParity}
 use Rattle.parity.specs.Unit.{judgeVerdict, unitData}
 
--- these words in n parts of 264, the last one possibly shorter
+-- these words in n parts of a whole unit's length, the last one possibly shorter
 unfoldable pub parts : ℕ → List ℕ → List (List ℕ)
 parts zero ws = []
-parts (suc n) ws = take 264 ws ∷ parts n (drop 264 ws)
+parts (suc n) ws = take unitWidth ws ∷ parts n (drop unitWidth ws)
 
 -- the units of a payload
 abbrev pub unitsIn : List ℕ → List (List ℕ)
-unitsIn p = parts ((length p + 263) / 264) p
+unitsIn p = parts ((length p + (unitWidth - 1)) / unitWidth) p
 
 -- a unit among these that is refused with 6
 unfoldable pub anyDamaged : List (List ℕ) → Bool
@@ -35,11 +36,11 @@ unfoldable pub givenData : List (List ℕ) → List ℕ
 givenData [] = []
 givenData (u ∷ us) = given u ++ givenData us
 
--- how many data words these units have: a unit has 8 parity words, and data words else
+-- how many data words these units have: a unit has its parity words, and data words else
 unfoldable pub dataWords : List (List ℕ) → ℕ
 dataWords [] = 0
-dataWords (u ∷ us) = (length u - 8) + dataWords us
+dataWords (u ∷ us) = (length u - parityWidth) + dataWords us
 
--- the data words of a payload of n words, by its length alone: 256 in each whole unit, and those of the last one
+-- the data words of a payload of n words, by its length alone: those of each whole unit, and those of the last one
 abbrev pub dataWordsIn : ℕ → ℕ
-dataWordsIn n = n / 264 * 256 + (n % 264 - 8)
+dataWordsIn n = n / unitWidth * dataWidth + (n % unitWidth - parityWidth)

@@ -10,6 +10,7 @@ ghost use mathlib.Core.Path.{_≡_};
 ghost use mathlib.Core.Bool.{cond};
 ghost use Prim.Native.Nat.{_+_, _-_, _≤_, min};
 ghost use lib.ListN.{length};
+ghost use Rattle.base.specs.Size.{unitWidth};
 ghost use Rattle.parity_units.specs.Split.{unitsIn, anyDamaged, dataWordsIn};
 ghost use Rattle.parity_units.specs.Replies.{joinReply, joinRoom, outcomeOf, outcomes};
 
@@ -36,7 +37,7 @@ pub fn data_words(n: Words) -> Words
 // Where the unit ends that begins at a place of a payload of n words.
 fn unit_end(at: Words, n: Words) -> Words
     requires { ⌜ at .0 ≤ n .0 ⌝ }
-    ensures { λ r. ⌜ r .0 ≡ at .0 + min 264 (n .0 - at .0) ⌝ }
+    ensures { λ r. ⌜ r .0 ≡ at .0 + min unitWidth (n .0 - at .0) ⌝ }
 {
     if n.0 - at.0 < UNIT.0 {
         return n;

@@ -8,10 +8,10 @@ ghost use Rattle.base_room.specs.Room.{put};
 ghost use Rattle.program_output.specs.Output.{pageSize, toReply, appendReply, decimal};
 
 // bytes that are written at once
-pub const PAGE: usize = 4096;
+pub const PAGE: Bytes = Bytes(4096);
 
-// the most digits that a number has
-const DIGITS: usize = 20;
+// the most digits that a number has, a byte each
+const DIGITS: Bytes = Bytes(20);
 
 // Where the bytes go, how many of them stand on the page, and whether any were lost.
 pub struct Out {
@@ -33,7 +33,7 @@ impl Out {
     }
 
     // Bytes after those on the page. Where they do not fit the page stays as it is, and has failed.
-    pub fn append(mut self, page: &mut [u8; PAGE], bytes: &[u8]) -> Out
+    pub fn append(mut self, page: &mut [u8; PAGE.0], bytes: &[u8]) -> Out
         ensures { λ r. ⌜ r ≡ appendReply self (length (now (bytes .entry))) ⌝ }
         ensures { λ _. ⌜ now (page .exit) ≡ put (now (bytes .entry)) (self .used .0) (now (page .entry)) ⌝ }
     {
@@ -51,17 +51,17 @@ impl Out {
     }
 
     // A number's decimal digits, in the same way.
-    pub fn append_number(self, page: &mut [u8; PAGE], n: usize) -> Out
+    pub fn append_number(self, page: &mut [u8; PAGE.0], n: usize) -> Out
         ensures { λ r. ⌜ r ≡ appendReply self (length (decimal n)) ⌝ }
         ensures { λ _. ⌜ now (page .exit) ≡ put (decimal n) (self .used .0) (now (page .entry)) ⌝ }
     {
-        let mut digits = [0u8; DIGITS];
+        let mut digits = [0u8; DIGITS.0];
         let count = io::decimal(n as u64, &mut digits);
         self.append(page, &digits[..count])
     }
 
     // Writes what stands on the page. Once some bytes were lost nothing more is written.
-    pub fn flush(self, page: &[u8; PAGE]) -> Out {
+    pub fn flush(self, page: &[u8; PAGE.0]) -> Out {
         self.send(page)
     }
 
@@ -81,7 +81,7 @@ impl Out {
     }
 
     // The page with room for so many bytes more, if it has as many.
-    fn ready(self, page: &[u8; PAGE], more: Bytes) -> Out {
+    fn ready(self, page: &[u8; PAGE.0], more: Bytes) -> Out {
         if fits(self.used, more) {
             return self;
         }
@@ -89,13 +89,13 @@ impl Out {
     }
 
     // Text of no more than a page.
-    pub fn text(self, page: &mut [u8; PAGE], bytes: &[u8]) -> Out {
+    pub fn text(self, page: &mut [u8; PAGE.0], bytes: &[u8]) -> Out {
         self.ready(page, Bytes(bytes.len())).append(page, bytes)
     }
 
     // A number in decimal digits.
-    pub fn number(self, page: &mut [u8; PAGE], n: usize) -> Out {
-        self.ready(page, Bytes(DIGITS)).append_number(page, n)
+    pub fn number(self, page: &mut [u8; PAGE.0], n: usize) -> Out {
+        self.ready(page, DIGITS).append_number(page, n)
     }
 }
 
@@ -103,8 +103,8 @@ impl Out {
 fn fits(used: Bytes, more: Bytes) -> bool
     ensures { λ r. ⌜ r ≡ leb (used .0 + more .0) pageSize ⌝ }
 {
-    if PAGE < more.0 {
+    if PAGE.0 < more.0 {
         return false;
     }
-    used.0 <= PAGE - more.0
+    used.0 <= PAGE.0 - more.0
 }

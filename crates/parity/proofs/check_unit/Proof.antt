@@ -75,6 +75,7 @@ check-unit-spec =
     (tie.spec
     (λ c κs. search needs)
     returns
+    (λ c. search needs)
     sub-put-words
     part-put-words-start
     (λ c. search needs)

@@ -1,5 +1,5 @@
 -- `program_input::too_many` meets its contract: n bytes are more than 2 * (1 + most) exactly where (n - 1) / 2 is more than `most`.
-use mathlib.Core.Path.{_≡_, refl, sym, _∙_}
+use mathlib.Core.Path.{_≡_, refl, sym}
 use mathlib.Core.Bool.{Bool, true, false}
 use Prim.Native.Nat.{ℕ, _+_, _-_, _*_, _/_}
 use native.Mathlib.Omega.{arith}

@@ -1,5 +1,5 @@
 -- `program_output::Out::append_number` meets its contract: the digits that `io::decimal` gives are those of `decimal`.
-use mathlib.Core.Path.{_≡_, sym, ap, _∙_}
+use mathlib.Core.Path.{ap, _∙_}
 use mathlib.Core.List.{List}
 use Prim.Native.Nat.{ℕ}
 use lib.ListN.{length}
