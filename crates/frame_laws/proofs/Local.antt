@@ -18,7 +18,7 @@ use Rattle.chunk.specs.Reading.{entry, reading, listedWords, leftAt, listedAt}
 use Rattle.chunk.proofs.Headers.{headed-parts, confirmed-within}
 use Rattle.chunk_laws.specs.Stretch.{Laid, words, entries, whole as wholeChunk, wholeRow}
 use Rattle.chunk_laws.specs.Outside.{within, covered}
-use Rattle.chunk_laws.specs.Resync.{_∈_}
+use Rattle.chunk_laws.specs.Listed.{Among}
 use Rattle.chunk_laws.proofs.Tests.{and-both}
 use Rattle.chunk_laws.proofs.ByPlace.{listed-place}
 use Rattle.chunk_laws.proofs.Rows.{lists-row}
@@ -37,7 +37,7 @@ use Rattle.frame_laws.specs.Local.{EndToEnd, Local, FramesLocal, StrayAf
 
 record Joined (end : ℕ) (all : Bool) (es js : List Entry) : Type 0 where
   endToEnd : EndToEnd end js
-  among : (f : Entry) → f ∈ js → f ∈ es
+  among : (f : Entry) → Among f js → Among f es
   again : joining end all js ≡ js
 
 joined : (end : ℕ) (all : Bool) (es : List Entry) → Joined end all es (joining end all es)
@@ -55,7 +55,7 @@ joined end all (e ∷ es) =
         let js : List Entry = joining (end + span (e .header)) (whole (e .header)) es in
         subst (Joined end all (e ∷ es)) (sym (joining-one end all e es true j)) (record {
           endToEnd = (eqb-true (e .position .0) end (and-right all _ (and-left (all && eqb (e .position .0) end) _ j)), more .endToEnd);
-          among = λ f h. elim h as (λ x. f ∈ e ∷ es) [ inl z ↦ inl z | inr z ↦ inr (more .among f z) ];
+          among = λ f h. elim h as (λ x. Among f (e ∷ es)) [ inl z ↦ inl z | inr z ↦ inr (more .among f z) ];
           again = joining-one end all e js true j ∙ ap (λ (l : List Entry). e ∷ l) (more .again);
         })
 
@@ -67,7 +67,7 @@ record HeaderAt (sync : ℕ) (ws : List ℕ) (e : Entry) : Type 0 where
   confirms : confirmed sync (drop (e .position .0) ws) ≡ true
 
 module _ (sync : ℕ) (ws : List ℕ) where
-  listed-header-at : (e : Entry) → e ∈ reading sync ws → HeaderAt sync ws e
+  listed-header-at : (e : Entry) → Among e (reading sync ws) → HeaderAt sync ws e
   unfolding listedAt
   listed-header-at e h =
       let t = listed-place sync ws e h in
@@ -79,7 +79,7 @@ module _ (sync : ℕ) (ws : List ℕ) where
       omega (arith, confirmed-within sync (drop (e .position .0) ws) (s .confirms), length-drop (e .position .0) ws)
 
   -- where no chunk is confirmed after the first n, there are no more
-  none-after-gap : (n at : ℕ) (es : List Entry) → EndToEnd at es → ((e : Entry) → e ∈ es → HeaderAt sync ws e)
+  none-after-gap : (n at : ℕ) (es : List Entry) → EndToEnd at es → ((e : Entry) → Among e es → HeaderAt sync ws e)
       → confirmed sync (drop (at + listedWords (take n es)) ws) ≡ false → take n es ≡ es
   unfolding listedWords
   none-after-gap zero at [] p s z = refl
@@ -110,7 +110,7 @@ module _ (sync : ℕ) (ws : List ℕ) where
   row-entries at [] p = refl
   row-entries at (e ∷ es) p = ap₂ (λ (n : ℕ) (l : List Entry). entry n (e .header) ∷ l) (sym (p .0)) (row-entries (at + span (e .header)) es (p .1))
 
-  row-whole : (es : List Entry) → ((e : Entry) → e ∈ es → HeaderAt sync ws e) → wholeRow (rowOf es) ≡ true
+  row-whole : (es : List Entry) → ((e : Entry) → Among e es → HeaderAt sync ws e) → wholeRow (rowOf es) ≡ true
   unfolding wholeRow confirmed
   row-whole [] s = refl
   row-whole (e ∷ es) s =
@@ -121,7 +121,7 @@ module _ (sync : ℕ) (ws : List ℕ) where
       and-both (wholeChunk (record { header = h; payload = payloadOf ws e })) _ (and-both (legal h) _ l (eq-eqb (length (payloadOf ws e)) (size h) n))
       (row-whole es (λ f i. s f (inr i)))
 
-  row-words : (at : ℕ) (es : List Entry) → EndToEnd at es → ((e : Entry) → e ∈ es → HeaderAt sync ws e)
+  row-words : (at : ℕ) (es : List Entry) → EndToEnd at es → ((e : Entry) → Among e es → HeaderAt sync ws e)
       → take (listedWords es) (drop at ws) ≡ words sync (rowOf es)
   unfolding listedWords
   row-words at [] p s = refl
@@ -157,11 +157,11 @@ units-within n ws l at (e ∷ es) p f =
 
 -- ---- the frame
 
-frame-among : (es : List Entry) (f : Entry) → f ∈ frameOf es → f ∈ es
+frame-among : (es : List Entry) (f : Entry) → Among f (frameOf es) → Among f es
 unfolding frameOf
 frame-among [] f h = h
 frame-among (e ∷ es) f h =
-    elim h as (λ x. f ∈ e ∷ es) [ inl z ↦ inl z | inr z ↦ inr (joined (span (e .header)) (whole (e .header)) es .among f z) ]
+    elim h as (λ x. Among f (e ∷ es)) [ inl z ↦ inl z | inr z ↦ inr (joined (span (e .header)) (whole (e .header)) es .among f z) ]
 
 frame-again : (es : List Entry) → frameOf (frameOf es) ≡ frameOf es
 unfolding frameOf
@@ -181,7 +181,7 @@ module _ (sync : ℕ) (ws : List ℕ) (s : startsFrame sync ws ≡ true) where
       let j = joined (span h) (whole h) (listedFrom sync ws (span h)) in
       subst (EndToEnd 0) (sym (first-and-ahead sync ws s)) (refl, rw (zero-add (span h)) (j .endToEnd))
 
-  frame-header-at : (e : Entry) → e ∈ fs → HeaderAt sync ws e
+  frame-header-at : (e : Entry) → Among e fs → HeaderAt sync ws e
   unfolding frameChunks
   frame-header-at e h = listed-header-at sync ws e (frame-among (reading sync ws) e h)
 

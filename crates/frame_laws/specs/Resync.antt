@@ -7,7 +7,8 @@ use mathlib.Core.List.{List, _∷_, _++_}
 use lib.ListN.{length}
 use Rattle.chunk.specs.Reading.{entry, reading}
 use Rattle.chunk_laws.specs.Stretch.{Laid, words, offset}
-use Rattle.chunk_laws.specs.Resync.{_∈_, from, moved}
+use Rattle.chunk_laws.specs.Listed.{Among}
+use Rattle.chunk_laws.specs.Resync.{from, moved}
 use Rattle.frame.specs.declared.Piece.{Piece}
 use Rattle.frame.specs.Shape.{starts}
 use Rattle.frame.specs.Pieces.{piecesOf, nextPiece}
@@ -24,7 +25,7 @@ pub record SameFrame (sync : ℕ) (ws : List ℕ) (p : ℕ) (vs : List ℕ) (q :
 abbrev pub FramesAsAlone : ℕ → List ℕ → List Laid → Type 0
 FramesAsAlone sync a cs =
     (before : List Laid) (c : Laid) (after : List Laid) → cs ≡ before ++ c ∷ after
-    → entry (length a + offset sync before) (c .header) ∈ reading sync (a ++ words sync cs)
+    → Among (entry (length a + offset sync before) (c .header)) (reading sync (a ++ words sync cs))
     → SameFrame sync (a ++ words sync cs) (length a + offset sync before) (words sync cs) (offset sync before)
 
 -- a frame or stray with its places moved on by n words
@@ -39,6 +40,6 @@ pub record StepsAsAlone (sync : ℕ) (a : List ℕ) (cs : List Laid) : Type 0 wh
   pub next : (q : ℕ) → nextPiece sync (a ++ words sync cs) (length a + q) ≡ movedPiece (length a) (nextPiece sync (words sync cs) q)
   -- from each of its listed chunks that starts a frame, and so from the first, the frames and strays of the recording are those of the stretch alone
   pub onward : (before : List Laid) (c : Laid) (after : List Laid) → cs ≡ before ++ c ∷ after
-      → entry (length a + offset sync before) (c .header) ∈ reading sync (a ++ words sync cs) → starts (c .header) ≡ true
+      → Among (entry (length a + offset sync before) (c .header)) (reading sync (a ++ words sync cs)) → starts (c .header) ≡ true
       → from (length a + offset sync before) (piecesOf sync (a ++ words sync cs))
       ≡ moved (length a) (from (offset sync before) (piecesOf sync (words sync cs)))
