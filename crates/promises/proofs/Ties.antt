@@ -1,6 +1,5 @@
 -- Two answers that are the definition's are one another's: this one law gives `Agree` of every function. And where the definition gives the refusal, so does
 -- whatever is tied to it.
-use Prim.Native.Nat.{ℕ}
 use mathlib.Core.Path.{_≡_, sym, _∙_}
 use Rattle.base.specs.Refusal.{verdict}
 use Rattle.promises.specs.Ties.{Lifetimes, Arguments, Function, Accepting, Tied, Agree, Determined, Call, Ordered, Refusing, Answers}
