@@ -12,6 +12,7 @@ use lib.ListN.{length, getD, set, take, drop, length-set}
 use lib.Seq.{drop-set-lt, drop-set-add, getD-drop, getD-set-same, set-set, set-getD}
 use borrow.Author.Tests.{le-leb, lt-ltb, ltb-true, ltb-false}
 use Rattle.base.specs.Xor.{_⊕_}
+use Rattle.base.specs.Size.{dataWidth}
 use Rattle.base_room.specs.Room.{put}
 use Rattle.base.proofs.XorLaws.{xor-assoc}
 use Rattle.base.specs.Refusal.{settled}
@@ -20,7 +21,7 @@ use Rattle.base_room.proofs.RoomLaws.{writer-left}
 use Rattle.parity.specs.declared.Judged.{Judged}
 use Rattle.parity.specs.Unit.{unitOf, flipped, rowDiffers, columnDiffers, sumAll, firstOf, Finding, sound, parityBit, dataBit, neither, fiveCases, finding, repaired, unitData, reply, named, judgeVerdict, judgeReply, checkReply, checkRoom, writeCauses, writeVerdict, writeReply, writeRoom}
 use Rattle.parity.proofs.Judging.{between, judgement, judged-refusal, checked-refusal, accepted-as-judged}
-use Rattle.parity_laws.specs.Units.{Accepted, written, Fits, Answers, WrittenIsSound, OneFlipIsRepaired, Hold, Arrived, none, whole, hurt, ArrivedHold}
+use Rattle.parity_laws.specs.Units.{Accepted, written, Answers, WrittenIsSound, OneFlipIsRepaired, Hold, Arrived, none, whole, hurt, ArrivedHold}
 use Rattle.parity_laws.proofs.Spot.{spot, sum-cong, first-cong, sum-none, sum-spot, first-spot}
 use Rattle.parity_laws.proofs.Flips.{rowFlip, columnFlip, flip-row, flip-column, unit-data, unit-length, no-row, no-column}
 use Rattle.parity_laws.proofs.Places.{data-flip-row, data-flip-column, row-parity-flip-row, row-parity-flip-column, column-parity-flip-row, column-parity-flip-column}
@@ -85,6 +86,10 @@ flip-twice w b d h =
 record Repaired (u d : List ℕ) (case word bit : ℕ) : Type 0 where
   judges : judgeReply u ≡ reply 0 case word bit (length d)
   holds : unitData u ≡ d
+
+-- data that a unit is written for
+abbrev Fits : List ℕ → Type 0
+Fits d = (1 ≤ length d) × (length d ≤ dataWidth)
 
 module _ (d : List ℕ) (fits : Fits d) where
   -- a unit of the right length is judged by what is found of it
@@ -249,18 +254,23 @@ module _ (d room : List ℕ) (a : Accepted d room) where
       ap (λ (n : ℕ). take (settled verdictThere n .length .0) (writeRoom d room)) (sym (unit-length d))
       ∙ writer-left verdictThere u room (omega (arith, unit-fits, unit-length d)) (settled-refusal verdictThere (length u) ∙ no-cause)
 
+  whole-there : Repaired (written d room) d 0 0 0
+  whole-there = rw unit-written (written-repaired d data-fit)
+
+  flip-there : (w b : ℕ) → w < length (written d room) → b < 16
+      → Repaired (flipped (written d room) w b) d (cond (ltb w 8) 1 2) (cond (ltb w 8) w (w - 8)) b
+  flip-there w b hw hb = rw unit-written (flip-repaired d data-fit w b (omega (arith, hw, ap length unit-written ∙ unit-length d)) hb)
+
 pub written-is-sound : WrittenIsSound
-written-is-sound d room a = rw (unit-written d room a) (answers (written-repaired d (data-fit d room a)))
+written-is-sound d room a = answers (whole-there d room a)
 
 pub one-flip-is-repaired : OneFlipIsRepaired
-one-flip-is-repaired d room a w b hw hb =
-    let e = unit-written d room a in
-    rw e (answers (flip-repaired d (data-fit d room a) w b (omega (arith, hw, ap length e ∙ unit-length d)) hb))
+one-flip-is-repaired d room a w b hw hb = answers (flip-there d room a w b hw hb)
 
 pub arrived-hold : ArrivedHold
 arrived-hold us ds a = by-unit a
   where
     by-unit : {us ds : List (List ℕ)} → Arrived us ds → Hold us ds
     by-unit none = tt
-    by-unit (whole d fits a) = let r = written-repaired d fits in (accepted r, r .holds, by-unit a)
-    by-unit (hurt d fits w b hw hb a) = let r = flip-repaired d fits w b hw hb in (accepted r, r .holds, by-unit a)
+    by-unit (whole d room a rest) = let r = whole-there d room a in (accepted r, r .holds, by-unit rest)
+    by-unit (hurt d room a w b hw hb rest) = let r = flip-there d room a w b hw hb in (accepted r, r .holds, by-unit rest)

@@ -1,14 +1,14 @@
 -- FORMAT, "Parity units" and "The three demands": what the unit writer left in the room is sound, and one flipped bit anywhere in it is found, named, and
 -- the data come back right. For data of every length that the writer takes.
-use Prim.Native.Nat.{ℕ, _+_, _-_, _≤_, _<_}
+use Prim.Native.Nat.{ℕ, _-_, _≤_, _<_}
 use mathlib.Core.Path.{_≡_}
 use mathlib.Core.Bool.{cond}
 use mathlib.Core.List.{List, [], _∷_}
 use lib.ListN.{length, take}
 use lib.Dec.{ltb}
-use Rattle.base.specs.Size.{parityWidth, dataWidth}
+use Rattle.base.specs.Size.{parityWidth}
 use Rattle.base_room.specs.Room.{put}
-use Rattle.parity.specs.Unit.{unitOf, flipped, judgeVerdict, unitData, reply, judgeReply, checkReply, checkRoom, writeReply, writeRoom}
+use Rattle.parity.specs.Unit.{flipped, judgeVerdict, unitData, reply, judgeReply, checkReply, checkRoom, writeReply, writeRoom}
 
 -- the writer takes these data in this room
 abbrev pub Accepted : List ℕ → List ℕ → Type 0
@@ -35,10 +35,6 @@ OneFlipIsRepaired = (d room : List ℕ) → Accepted d room → (w b : ℕ) → 
 
 -- ---- many units
 
--- data that a unit is written for
-abbrev pub Fits : List ℕ → Type 0
-Fits d = (1 ≤ length d) × (length d ≤ dataWidth)
-
 -- each of these units is accepted, and holds the data beside it
 abbrev pub Hold : List (List ℕ) → List (List ℕ) → Type 0
 Hold [] [] = Unit {0}
@@ -46,12 +42,12 @@ Hold [] (d ∷ ds) = ⊥
 Hold (u ∷ us) [] = ⊥
 Hold (u ∷ us) (d ∷ ds) = (judgeVerdict u ≡ 0) × (unitData u ≡ d) × Hold us ds
 
--- units as they were written, or each with one bit flipped, beside their data
+-- units as the writer left them, each in a room of its own, or each with one bit flipped, beside their data
 pub data Arrived : List (List ℕ) → List (List ℕ) → Type 0 where
   none : Arrived [] []
-  whole : {us ds : List (List ℕ)} (d : List ℕ) → Fits d → Arrived us ds → Arrived (unitOf d ∷ us) (d ∷ ds)
-  hurt : {us ds : List (List ℕ)} (d : List ℕ) → Fits d → (w b : ℕ) → w < parityWidth + length d → b < 16 → Arrived us ds
-      → Arrived (flipped (unitOf d) w b ∷ us) (d ∷ ds)
+  whole : {us ds : List (List ℕ)} (d room : List ℕ) → Accepted d room → Arrived us ds → Arrived (written d room ∷ us) (d ∷ ds)
+  hurt : {us ds : List (List ℕ)} (d room : List ℕ) → Accepted d room → (w b : ℕ) → w < length (written d room) → b < 16 → Arrived us ds
+      → Arrived (flipped (written d room) w b ∷ us) (d ∷ ds)
 
 -- they hold their data
 abbrev pub ArrivedHold : Type 0

@@ -1,8 +1,10 @@
 // The parity of data, taken as 64 rows of 64 bits: in one pass by rows of four words, zeros past the end.
 use base::Words;
 use base::number;
+use base::size::PARITY;
 ghost use mathlib.Core.Path.{_≡_};
 ghost use Prim.Native.Nat.{_<_, _≤_};
+ghost use Rattle.base.specs.Size.{dataWidth};
 ghost use Rattle.parity_rows.specs.Parity.{number, bitFrom, parityWords, parities, statedParity};
 ghost use Rattle.parity_rows.specs.ByRows.{pack, oneMore};
 
@@ -20,7 +22,7 @@ fn pack_row(a: u16, b: u16, c: u16, d: u16) -> u64
 
 // The 64 bits from a word on as one number, the first bit highest.
 fn bits_from(words: &[u16], at: Words) -> u64
-    requires { ⌜ at .0 ≤ 256 ⌝ }
+    requires { ⌜ at .0 ≤ dataWidth ⌝ }
     ensures { λ r. ⌜ r ≡ number 64 (bitFrom (now (words .entry)) (at .0)) ⌝ }
 {
     let first = at.0;
@@ -63,7 +65,7 @@ pub fn parity(data: &[u16]) -> Sums
     s
 }
 
-// The parity that a unit's first eight words state.
+// The parity that a unit's parity words state.
 pub fn stated(unit: &[u16]) -> Sums
     ensures { λ s. ⌜ s ≡ statedParity (now (unit .entry)) ⌝ }
 {
@@ -73,8 +75,8 @@ pub fn stated(unit: &[u16]) -> Sums
     }
 }
 
-// The eight parity words of the data.
-pub fn parity_words(data: &[u16]) -> [u16; 8]
+// The parity words of the data.
+pub fn parity_words(data: &[u16]) -> [u16; PARITY.0]
     ensures { λ r. ⌜ r ≡ parityWords (now («data» .entry)) ⌝ }
 {
     let s = parity(data);

@@ -4,8 +4,7 @@ use Prim.Native.Nat.{_-_, _≤_}
 use native.Mathlib.Omega.{arith}
 use borrow.Author.Needs.{needs}
 use Rattle.parity_rows.specs.Parity.{xorAll, number}
-use Rattle.parity_rows.specs.ByRows.{sumsOf}
-use Rattle.parity_rows.proofs.ByRows.{next-sums, enough-rows, all-rows}
+use Rattle.parity_rows.proofs.ByRows.{sumsOf, next-sums, enough-rows, all-rows}
 use Rattle.parity_rows.proofs.parity.Statement.{statement}
 use Rattle.parity_rows.proofs.parity.Tie as tie
 
