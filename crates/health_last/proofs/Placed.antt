@@ -2,6 +2,7 @@
 use mathlib.Core.Path.{_≡_, refl, sym, ap, ap₂, _∙_}
 use mathlib.Core.Bool.{Bool, true, false, cond}
 use mathlib.Core.List.{List, [], _∷_}
+use mathlib.Core.Logic.{inl, inr}
 use Prim.Native.Nat.{ℕ, _+_, _≤_}
 use native.Mathlib.Omega.{arith}
 use lib.ListN.{length, take, drop, length-take, length-drop}
@@ -9,28 +10,24 @@ use lib.Dec.{eqb}
 use borrow.Author.Tests.{eq-eqb, ne-eqb, eqb-true, eqb-false}
 use Rattle.base.proofs.Booleans.{and-left, and-right}
 use Rattle.base.specs.Refusal.{Causes, verdict, nothingThere}
-use Rattle.base.specs.declared.Words.{Words}
 use Rattle.base.proofs.Refused.{verdict-kept, verdict-further, answer-no, answer-yes}
 use Rattle.health.specs.Packet.{packetType, soundPacket}
 use Rattle.health.proofs.Sound.{sound-long}
 use Rattle.health_last.specs.declared.Place.{Place}
 use Rattle.health_last.specs.declared.Sought.{Sought}
 use Rattle.health_last.specs.declared.Sought.the-variants.{At, Nowhere}
-use Rattle.health_last.specs.Packets.{sciencePlaces, healthPlaces, soundOf, later, lastWhere}
+use Rattle.health_last.specs.Packets.{sciencePlaces, healthPlaces, soundOf, foundAt, lastWhere}
 use Rattle.health_last.specs.Last.{inScience, inHealth, refused, shown, argumentCauses, lastCauses, lastPlaceReply, partAt, lastPacketReply}
+use Rattle.health_last.proofs.Later.{last-cases, nothing-in-none}
 
 -- ---- the place that is found passes the test
 
-pub last-holds : (f : ℕ → Bool) (ps : List ℕ) (p : Words) → lastWhere f ps ≡ At p → f (p .0) ≡ true
-unfolding lastWhere
-last-holds f [] p e = let z : _≡_ {A = ℕ} 0 1 = cc in absurd (omega arith)
-last-holds f (q ∷ ps) p e = by-cases (last-holds f ps p) (lastWhere f ps) refl (f q) refl e
-  where
-    by-cases : (lastWhere f ps ≡ At p → f (p .0) ≡ true) → (s : Sought) → lastWhere f ps ≡ s → (b : Bool) → f q ≡ b
-        → later s (cond b (At (record { 0 = q })) Nowhere) ≡ At p → f (p .0) ≡ true
-    by-cases further (At r) es b eb e = further (es ∙ e)
-    by-cases further Nowhere es true eb e = let z : record { 0 = q } ≡ p = cc in ap (λ (w : Words). f (w .0)) (sym z) ∙ eb
-    by-cases further Nowhere es false eb e = let z : _≡_ {A = ℕ} 0 1 = cc in absurd (omega arith)
+pub last-holds : (f : ℕ → Bool) (ps : List ℕ) (p : ℕ) → lastWhere f ps ≡ foundAt p → f p ≡ true
+last-holds f [] p e = absurd (nothing-in-none f p e)
+last-holds f (q ∷ ps) p e = elim (last-cases f q ps p e) as (λ x. f p ≡ true) [
+  | inl k ↦ last-holds f ps p k
+  | inr k ↦ ap f (sym (k .0)) ∙ k .1
+]
 
 pub sound-parts : (t : ℕ) (ws : List ℕ) (p : ℕ) → soundOf ws t p ≡ true → (packetType (take 32 (drop p ws)) ≡ t) × (soundPacket (take 32 (drop p ws)) ≡ true)
 unfolding soundOf
@@ -116,10 +113,10 @@ module _ (sync : ℕ) (science : List ℕ) (t : ℕ) (health : List ℕ) {s : Pl
       (q .0, q .1 ∙ ap (λ (x : Place). At (x .at)) (sym k))
 
   pub science-within : s .recording ≡ 1 → s .at .0 + 32 ≤ length science
-  science-within h = sound-within t science (s .at .0) (last-holds (soundOf science t) (sciencePlaces sync science) (s .at) (of-science h))
+  science-within h = sound-within t science (s .at .0) (last-holds (soundOf science t) (sciencePlaces sync science) (s .at .0) (of-science h))
 
   pub health-within : s .recording ≡ 2 → s .at .0 + 32 ≤ length health
-  health-within h = sound-within t health (s .at .0) (last-holds (soundOf health t) (healthPlaces health) (s .at) (of-health h .1))
+  health-within h = sound-within t health (s .at .0) (last-holds (soundOf health t) (healthPlaces health) (s .at .0) (of-health h .1))
 
   pub science-part : s .recording ≡ 1 → take 32 (drop (s .at .0) science) ≡ lastPacketReply sync science health t
   unfolding partAt

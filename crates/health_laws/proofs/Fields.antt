@@ -19,11 +19,11 @@ use Rattle.health.specs.Writing.{writtenCrc, packetFrom}
 use Rattle.health_observation.specs.declared.Mode.{Mode}
 use Rattle.health_observation.specs.declared.Observed.{Observed}
 use Rattle.health_observation.specs.Observation.{isObservation, observationCauses, observationOf, observationReply}
-use Rattle.health_observation.proofs.Modes.{mode-only}
 use Rattle.health_checksums.specs.Checksums.{checksumsCauses, checksumsReply}
 use Rattle.health_upsets.specs.declared.Upset.{Upset}
 use Rattle.health_upsets.specs.Upsets.{upset, upsetAt, oldestFirst, upsetsCauses, upsetsReply}
 use Rattle.health_laws.specs.Fields.{flagsWord, observationWords, observationType, Observation, ObservationIsRead, checksumWords, ChecksumsAreRead, entryWords, upsetWords, UpsetsAreRead}
+use Rattle.health_laws.proofs.Modes.{mode-only}
 use Rattle.health_laws.proofs.RoundTrip.{accepted-parts, written-packet}
 
 -- a field reader refuses no packet of 29 words that are its own
