@@ -1,6 +1,6 @@
 -- `frame::shape::measure` meets its contract: the walk of `Walking`.
 use mathlib.Core.Path.{_≡_, refl, sym, ap, _∙_}
-use mathlib.Core.Bool.{Bool, _&&_}
+use mathlib.Core.Bool.{Bool, true, false, _&&_}
 use Prim.Native.Nat.{ℕ, _+_, _-_, _%_, _<_, _≤_}
 use native.Mathlib.Omega.{arith}
 use lib.ListN as ListN
@@ -38,11 +38,14 @@ module _ (c : tie.After-joins Inv-loop μ-loop) where
   abbrev a : tie.Start Inv-loop μ-loop
   a = l .before .before .before .before .before .before
 
-  tested : eqb (l .loop .size % 264) 0 && joinsFrame (a .args .sync) (ListN.drop (l .loop .end) (a .args .words .now))
-      ≡ eqb (l .loop .size % 264) 0 && c .joins .result
-  tested =
-      ap (λ (b : Bool). eqb (l .loop .size % 264) 0 && b)
+  abbrev joined : Bool
+  joined = eqb (l .loop .size % 264) 0 && joinsFrame (a .args .sync) (ListN.drop (l .loop .end) (a .args .words .now))
+
+  tested : (b : Bool) → eqb (l .loop .size % 264) 0 && c .joins .result ≡ b → joined ≡ b
+  tested b t =
+      ap (λ (x : Bool). eqb (l .loop .size % 264) 0 && x)
       (sym (c .joins .ensures ∙ ap (joinsFrame (a .args .sync)) (to-end (l .loop .end) (a .args .words .now))))
+      ∙ t
 
 -- one that joins lies within the words
 inside : (c : tie.Then1 Inv-loop μ-loop) → (l (c .before) .loop .end + 1 < ListN.length (a (c .before) .args .words .now))
@@ -50,7 +53,7 @@ inside : (c : tie.Then1 Inv-loop μ-loop) → (l (c .before) .loop .end + 1 < Li
     ≤ ListN.length (a (c .before) .args .words .now))
 inside c =
     let t = c .before in
-    joining-fits (a t .args .sync) (a t .args .words .now) (a t .pre) _ _ _ _ (l t .loop .inv) (tested t ∙ c .if1 .taken)
+    joining-fits (a t .args .sync) (a t .args .words .now) (a t .pre) _ _ _ _ (l t .loop .inv) (tested t true (c .if1 .taken))
 
 add-size-of : tie.Need-add-size-of Inv-loop μ-loop
 add-size-of c = omega (arith, inside c .0)
@@ -79,12 +82,12 @@ loop-again : tie.Need-loop-again Inv-loop μ-loop
 loop-again c =
     let t = c .before .before .before .before .before .before in
     one-more-walked (a t .args .sync) (a t .args .words .now) (a t .pre) _ _ _ _ (l t .loop .inv) _ _ _ _ refl (c .before .before .before .size-of2 .ensures)
-    (tested t ∙ c .before .before .before .before .before .if1 .taken) refl (ap (λ (n : ℕ). l t .loop .length + n) (c .before .data-words2 .ensures))
+    (tested t true (c .before .before .before .before .before .if1 .taken)) refl (ap (λ (n : ℕ). l t .loop .length + n) (c .before .data-words2 .ensures))
 
 returns : tie.Need-returns Inv-loop μ-loop
 returns c =
     let t = c .before in
-    all-walked (a t .args .sync) (a t .args .words .now) (a t .pre) _ _ _ _ (l t .loop .inv) (tested t ∙ c .if1 .left)
+    all-walked (a t .args .sync) (a t .args .words .now) (a t .pre) _ _ _ _ (l t .loop .inv) (tested t false (c .if1 .left))
 
 pub measure-spec : {M : Type 1} → statement M
 measure-spec =
