@@ -17,12 +17,11 @@ ghost use Rattle.base.specs.Refusal.{verdict};
 ghost use Rattle.command_catalogue.specs.Table.{some};
 ghost use Rattle.command_catalogue.specs.Rules.{askedWrong, patchLengths, zeros, fieldsWrong, furtherWrong, judgeCauses};
 
-// Catalogue 1 is D-CIXS, 2 is C1XS.
+// The catalogues and the modes, as the calls take them: catalogue 1 is D-CIXS, 2 is C1XS.
 pub const DCIXS: u8 = 1;
 
 pub const C1XS: u8 = 2;
 
-// The modes.
 pub const EMERGENCY: u8 = 0;
 
 pub const STANDBY: u8 = 1;

@@ -13,19 +13,19 @@ use Rattle.reel_writing.proofs.plan.Statement.{statement}
 use Rattle.reel_writing.proofs.plan.Tie as tie
 
 returns : tie.Need-returns
-returns c = let a = c .before .before .before .args in c .settle .ensures ∙ too-long-refused (a .sync) (a .recording .now) (a .room) (c .before .if1 .taken)
+returns c = let a = c .before .before .before .before .args in c .settle .ensures ∙ too-long-refused (a .sync) (a .recording .now) (a .room .0) (c .before .if1 .taken)
 
 reel-words-requires : tie.Need-reel-words-requires
 reel-words-requires c κs =
-    let a = c .before .before .before .args in
+    let a = c .before .before .before .before .args in
     (omega arith, omega (arith, few-chunks (a .sync) (a .recording .now), ap (λ (s : Survey). s .chunks) (c .count .ensures)))
 
 returns-2 : tie.Need-returns-2
 returns-2 c =
-    let w = c .before .before in
-    let a = w .before .before .before .before .args in
-    c .settle2 .ensures ∙ ap (λ (v : ℕ). settled v (w .reel-words .result)) (c .before .cause .ensures)
-    ∙ room-compared (a .sync) (a .recording .now) (a .room) _ (w .before .before .if1 .left)
+    let w = c .before .before .before .before in
+    let a = w .before .before .before .before .before .args in
+    c .settle2 .ensures ∙ ap (λ (v : ℕ). settled v (w .reel-words .result .0)) (c .before .cause .ensures)
+    ∙ room-compared (a .sync) (a .recording .now) (a .room .0) _ (w .before .before .if1 .left)
     (w .reel-words .ensures ∙ ap (λ (s : Survey). reelWords (length (a .recording .now)) (s .chunks)) (w .before .count .ensures))
 
 pub plan-spec : {M : Type 1} → statement M
