@@ -1,6 +1,6 @@
 -- FORMAT, "The three demands", the first: every public call accepts every input and ends, and a refusal has its number, in order, with zeros beside it and
--- nothing altered. That every function accepts every input and ends is its own proof: none has a `requires`. The rest stands here, of each public function
--- under its name, but of the four that read or write a descriptor: nothing can be said of what comes or goes there.
+-- nothing altered. That each ends is its own proof. The rest stands here, of each public function under its name, but of the four that read or write a
+-- descriptor: nothing can be said of what comes or goes there.
 use Rattle.promises.specs.Ties.{Determined, Answers}
 use Rattle.promises.specs.calls.Base as base
 use Rattle.promises.specs.calls.Crc as crc
@@ -13,8 +13,8 @@ use Rattle.promises.specs.calls.Command as command
 use Rattle.promises.specs.calls.Reel as reel
 use Rattle.promises.specs.calls.Program as program
 
--- The calls. Each refuses what the rules refuse, with the first cause that applies in the order of FORMAT, "Refusal numbers"; beside the number stand zeros,
--- and lent room is as it was. Else its answer is its definition's, and there is no other.
+-- The calls. Each accepts every input, and refuses what the rules refuse, with the first cause that applies in the order of FORMAT, "Refusal numbers"; beside
+-- the number stand zeros, and lent room is as it was. Else its answer is its definition's, and there is no other.
 pub record Calls : Type 0 where
   pub survey : Answers chunk.survey
   pub chunkAt : Answers chunk.at
