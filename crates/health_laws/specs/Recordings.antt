@@ -49,10 +49,12 @@ pub record Carrier : Type 0 where
   pub image : kind (chunk .header) ≡ 0 → carried ≡ []
   pub health : kind (chunk .header) ≡ 1 → chunk .payload ≡ packets carried
 
+-- the chunks of a row
 abbrev pub chunks : List Carrier → List Laid
 chunks [] = []
 chunks (c ∷ cs) = c .chunk ∷ chunks cs
 
+-- the packets of a row, in order
 abbrev pub allCarried : List Carrier → List Packet
 allCarried [] = []
 allCarried (c ∷ cs) = c .carried ++ allCarried cs
@@ -64,6 +66,7 @@ LastInScience = (sync : ℕ) (before : List Carrier) (c : Carrier) (after : List
     → inScience sync (words sync (chunks (before ++ c ∷ after))) (p .type)
     ≡ foundAt (offset sync (chunks before) + 2 + length (packets earlier))
 
+-- and nothing where no packet is of the type
 abbrev pub NoneInScience : Type 0
 NoneInScience = (sync t : ℕ) (cs : List Carrier) → wholeRow (chunks cs) ≡ true → noneOf t (allCarried cs) ≡ true
     → inScience sync (words sync (chunks cs)) t ≡ nowhere
