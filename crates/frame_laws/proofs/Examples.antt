@@ -4,7 +4,6 @@ use mathlib.Core.Bool.{true, false}
 use mathlib.Core.List.{[], _∷_, _++_}
 use native.Mathlib.Omega.{arith}
 use Rattle.base.specs.Refusal.{answer, nothingThere, frameCut}
-use Rattle.base.specs.Number.{bitOf}
 use Rattle.base_room.specs.Room.{put}
 use Rattle.crc.specs.Crc.{crcBit, crcStep}
 use Rattle.parity_rows.specs.Parity.{xorAll, bitFrom, rowParity, columnParity}
@@ -26,16 +25,16 @@ use Rattle.frame_laws.specs.Examples.{sync, unit, packet, image, continu
 completes : (atReply sync (image 0x8000 ++ health 4) 0 ≡ frame 0 1 1 true 1)
     × (readReply sync (image 0x8000 ++ health 4) 0 2 ≡ frame 0 1 1 true 1)
     × (readRoom sync (image 0x8000 ++ health 4) 0 (0xFFFF ∷ 0xFFFF ∷ []) ≡ 0x8000 ∷ 0xFFFF ∷ [])
-unfolding answer put atReply readReply readRoom described complete closes frameChunks frameOf joining unitsOf parts dataWords anyDamaged joinedData unitData judgeVerdict flipped finding fiveCases firstOf sumAll rowDiffers columnDiffers rowParity columnParity bitFrom bitOf xorAll listedAt leftAt listed listedWords confirmed headed ends legal legalSize soundPacket packetCrc writtenCrc crcBit crcStep
+unfolding answer put atReply readReply readRoom described complete closes frameChunks frameOf joining unitsOf parts dataWords anyDamaged joinedData unitData judgeVerdict flipped finding fiveCases firstOf sumAll rowDiffers columnDiffers rowParity columnParity bitFrom xorAll listedAt leftAt listed listedWords confirmed headed ends legal legalSize soundPacket packetCrc writtenCrc crcBit crcStep
 completes = (refl, refl, refl)
 
 repairs : (readReply sync (image 0 ++ health 4) 0 2 ≡ frame 0 1 1 true 1)
     × (readRoom sync (image 0 ++ health 4) 0 (0xFFFF ∷ 0xFFFF ∷ []) ≡ 0x8000 ∷ 0xFFFF ∷ [])
-unfolding answer put readReply readRoom described complete closes frameChunks frameOf joining unitsOf parts dataWords anyDamaged joinedData unitData judgeVerdict flipped finding fiveCases firstOf sumAll rowDiffers columnDiffers rowParity columnParity bitFrom bitOf xorAll listedAt leftAt listed listedWords confirmed headed ends legal legalSize soundPacket packetCrc writtenCrc crcBit crcStep
+unfolding answer put readReply readRoom described complete closes frameChunks frameOf joining unitsOf parts dataWords anyDamaged joinedData unitData judgeVerdict flipped finding fiveCases firstOf sumAll rowDiffers columnDiffers rowParity columnParity bitFrom xorAll listedAt leftAt listed listedWords confirmed headed ends legal legalSize soundPacket packetCrc writtenCrc crcBit crcStep
 repairs = (refl, refl)
 
 cuts : (atReply sync (image 0x8000 ++ health 5) 0 ≡ frame 0 1 1 false 1) × (judgeReply sync (image 0x8000 ++ health 5) 0 ≡ refused frameCut)
-unfolding answer atReply judgeReply described complete closes frameChunks frameOf joining unitsOf parts dataWords anyDamaged judgeVerdict finding fiveCases firstOf sumAll rowDiffers columnDiffers rowParity columnParity bitFrom bitOf xorAll listedAt leftAt listed listedWords confirmed headed ends legal legalSize soundPacket packetCrc writtenCrc crcBit crcStep
+unfolding answer atReply judgeReply described complete closes frameChunks frameOf joining unitsOf parts dataWords anyDamaged judgeVerdict finding fiveCases firstOf sumAll rowDiffers columnDiffers rowParity columnParity bitFrom xorAll listedAt leftAt listed listedWords confirmed headed ends legal legalSize soundPacket packetCrc writtenCrc crcBit crcStep
 cuts = (refl, refl)
 
 strays : (nextPiece sync (continuation 0x8000) 0 ≡ Piece.Stray (record { 0 = 0 }) (record { 0 = 11 }))
@@ -51,11 +50,11 @@ unfolding firstPiece framesAndStrays described complete closes frameChunks frame
 steps = (refl, refl, refl, refl)
 
 writes : Written 1 ((unit 0x8000 ∷ []) ∷ []) (packet 4) ((0x8000 ∷ []) ∷ [])
-unfolding writable unitRow joined fullButLast unitData judgeVerdict flipped finding fiveCases firstOf sumAll rowDiffers columnDiffers rowParity columnParity bitFrom bitOf xorAll legalSize soundPacket packetCrc writtenCrc crcBit crcStep
+unfolding writable unitRow joined fullButLast unitData judgeVerdict flipped finding fiveCases firstOf sumAll rowDiffers columnDiffers rowParity columnParity bitFrom xorAll legalSize soundPacket packetCrc writtenCrc crcBit crcStep
 writes = record { ofCamera = omega arith; image = refl; full = refl; closing = refl; observed = refl; hold = (refl, refl, tt) }
 
 hits : Written 1 ((unit 0 ∷ []) ∷ []) (packet 4) ((0x8000 ∷ []) ∷ [])
-unfolding writable unitRow joined fullButLast unitData judgeVerdict flipped finding fiveCases firstOf sumAll rowDiffers columnDiffers rowParity columnParity bitFrom bitOf xorAll legalSize soundPacket packetCrc writtenCrc crcBit crcStep
+unfolding writable unitRow joined fullButLast unitData judgeVerdict flipped finding fiveCases firstOf sumAll rowDiffers columnDiffers rowParity columnParity bitFrom xorAll legalSize soundPacket packetCrc writtenCrc crcBit crcStep
 hits = record { ofCamera = omega arith; image = refl; full = refl; closing = refl; observed = refl; hold = (refl, refl, tt) }
 
 pub examples : Examples

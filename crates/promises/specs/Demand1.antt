@@ -78,13 +78,11 @@ pub record Total : Type 0 where
   pub cameraOf : Determined chunk.cameraOf
   pub kindOf : Determined chunk.kindOf
   pub legalSize : Determined chunk.legalSize
-  pub legalWord : Determined chunk.legalWord
   pub check : Determined chunk.check
   pub nextChunk : Determined chunk.next
   pub refusedSurvey : Determined chunk.refused
   pub countChunks : Determined chunk.count
   pub isListed : Determined chunk.isListed
-  pub isSound : Determined health.isSound
   pub soundAt : Determined health.soundAt
   pub starts : Determined frame.starts
   pub nextPiece : Determined frame.next

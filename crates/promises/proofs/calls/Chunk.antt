@@ -20,9 +20,6 @@ kind-of = determined calls.kindOf (λ κs a. tt) λ κs a x e p. p
 pub legal-size : Determined calls.legalSize
 legal-size = determined calls.legalSize (λ κs a. tt) λ κs a x e p. p
 
-pub legal-word : Determined calls.legalWord
-legal-word = determined calls.legalWord (λ κs a. tt) λ κs a x e p. p
-
 pub check : Determined calls.check
 check = determined calls.check (λ κs a. tt) λ κs a x e p. p
 

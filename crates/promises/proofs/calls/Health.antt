@@ -19,9 +19,6 @@ use Rattle.promises.proofs.Ties.{determined, answers, both}
 pub judge : Answers calls.judge
 judge = answers calls.judge (λ κs a. tt) (λ κs a x e p. p) (λ κs a. refl) λ κs a h. refl
 
-pub is-sound : Determined calls.isSound
-is-sound = determined calls.isSound (λ κs a. tt) λ κs a x e p. p
-
 pub sound-at : Determined calls.soundAt
 sound-at = determined calls.soundAt (λ κs a. tt) λ κs a x e p. p
 

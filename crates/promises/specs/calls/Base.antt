@@ -1,5 +1,5 @@
 -- The functions of `base` and `base_room`: the contract, what the caller sees, and the definition that says it.
-use Prim.Native.Nat.{ℕ, _%_, _^_}
+use Prim.Native.Nat.{ℕ}
 use mathlib.Core.Bool.{cond}
 use mathlib.Core.List.{List, _++_}
 use lib.ListN.{getD}
@@ -52,7 +52,7 @@ lowByte =
 abbrev pub lowWord : Function
 lowWord =
     replies base.number.low_word.ended base.number.low_word.Reads.Asked base.number.low_word.Reads.Post
-    λ κs (x, _). x % 2 ^ 16
+    λ κs (x, _). number.lowWord x
 
 -- `base::number::either`
 abbrev pub either : Function

@@ -41,12 +41,6 @@ legalSize =
     replies chunk.header.legal_size.ended chunk.header.legal_size.Reads.Asked chunk.header.legal_size.Reads.Post
     λ κs (kind, (size, _)). header.legalSize kind (size .0)
 
--- `chunk::header::legal_word`
-abbrev pub legalWord : Function
-legalWord =
-    replies chunk.header.legal_word.ended chunk.header.legal_word.Reads.Asked chunk.header.legal_word.Reads.Post
-    λ κs (word, _). header.legal word
-
 -- `chunk::header::check`
 abbrev pub check : Function
 check =

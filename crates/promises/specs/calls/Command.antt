@@ -4,9 +4,9 @@ use Prim.Native.Nat.{ℕ}
 use mathlib.Core.List.{List, []}
 use lib.ListN.{length}
 use denote.Ref.{now}
-use Rattle.command_catalogue.specs.Rules.{fieldCauses}
+use Rattle.command_catalogue.specs.Rules as rules
 use Rattle.command.specs.Layout as layout
-use Rattle.command.specs.Asking as asking
+use Rattle.command.specs.Asking.{firstCauses}
 use Rattle.command_reading.specs.Reading.{readCauses, readReply, furtherReply, refused as readRefused}
 use Rattle.command_writing.specs.declared.Sent.{Sent}
 use Rattle.command_writing.specs.Writing.{writeCauses, writeReply, writeRoom, refused as writeRefused}
@@ -16,12 +16,18 @@ use Rattle.command_reading.proofs as command_reading
 use Rattle.command_writing.proofs as command_writing
 use Rattle.promises.specs.Ties.{Function, replies, Call, number, repliesOrRefuses, showsOrRefuses}
 
+-- `command_catalogue::asked_wrong`
+abbrev pub askedWrong : Function
+askedWrong =
+    replies command_catalogue.asked_wrong.ended command_catalogue.asked_wrong.Reads.Asked command_catalogue.asked_wrong.Reads.Post
+    λ κs (catalogue, (mode, _)). rules.askedWrong catalogue mode
+
 -- `command_catalogue::judge`
 abbrev pub judge : Call
 judge =
     repliesOrRefuses command_catalogue.judge.ended command_catalogue.judge.Reads.Asked command_catalogue.judge.Reads.Post
     λ κs (catalogue, (mode, (type, (qualifier, (address, (word, (bytes, _))))))).
-    number (fieldCauses catalogue mode type qualifier address word (now bytes))
+    number (rules.judgeCauses catalogue mode type qualifier address word (now bytes))
 
 -- `command::word_at`
 abbrev pub wordAt : Function
@@ -35,18 +41,12 @@ fieldsIn =
     replies command.fields_in.ended command.fields_in.Reads.Asked command.fields_in.Reads.Post
     λ κs (bytes, _). layout.fieldsIn (now bytes)
 
--- `command::asked_wrong`
-abbrev pub askedWrong : Function
-askedWrong =
-    replies command.asked_wrong.ended command.asked_wrong.Reads.Asked command.asked_wrong.Reads.Post
-    λ κs (catalogue, (mode, _)). asking.askedWrong catalogue mode
-
 -- `command::first`
 abbrev pub first : Call
 first =
     repliesOrRefuses command.first.ended command.first.Reads.Asked command.first.Reads.Post
     λ κs (argument, (catalogue, (total, _))).
-    number (asking.firstCauses argument catalogue (total .0))
+    number (firstCauses argument catalogue (total .0))
 
 -- `command_reading::read`
 abbrev pub read : Call

@@ -2,11 +2,11 @@
 -- definition that says it.
 use Prim.Native.Nat.{ℕ}
 use mathlib.Core.List.{List, []}
-use lib.ListN.{length, take, drop}
+use lib.ListN.{length}
 use denote.Ref.{now}
 use Rattle.base.specs.declared.Written.{Written}
 use Rattle.base.specs.Refusal.{wrote}
-use Rattle.health.specs.Packet.{soundPacket}
+use Rattle.health.specs.Packet.{packetAt, soundPacket}
 use Rattle.health.specs.Reading.{judgeCauses, readCauses, readReply, refused as readRefused}
 use Rattle.health.specs.Writing.{writeCauses, writeReply, writeRoom}
 use Rattle.health_observation.specs.Observation.{observationCauses, observationReply, refused as observationRefused}
@@ -27,17 +27,11 @@ judge =
     λ κs (packet, (odd, _)).
     number (judgeCauses (now packet) odd)
 
--- `health::packet::is_sound`
-abbrev pub isSound : Function
-isSound =
-    replies health.packet.is_sound.ended health.packet.is_sound.Reads.Asked health.packet.is_sound.Reads.Post
-    λ κs (packet, _). soundPacket (now packet)
-
 -- `health::packet::sound_at`
 abbrev pub soundAt : Function
 soundAt =
     replies health.packet.sound_at.ended health.packet.sound_at.Reads.Asked health.packet.sound_at.Reads.Post
-    λ κs (words, (at, _)). soundPacket (take 32 (drop (at .0) (now words)))
+    λ κs (words, (at, _)). soundPacket (packetAt (now words) (at .0))
 
 -- `health::packet::read_packet`
 abbrev pub readPacket : Call
