@@ -16,7 +16,8 @@ pub struct Frame {
     pub length: Words,
 }
 
-// What comes next in a recording: a frame or a stray continuation, with the place where it stands and the place to go on from, or nothing more.
+// What comes next in a recording: a frame, complete or cut, or a stray continuation, with the place where it stands and the place where it ends, to go on
+// from; or nothing more.
 pub enum Piece {
     Frame(Words, Frame, Words),
     Stray(Words, Words),

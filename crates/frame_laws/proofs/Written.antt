@@ -37,7 +37,7 @@ use Rattle.frame.specs.Walk.{startsFrame, closesFrame}
 use Rattle.frame_reading.specs.Replies.{refused, noFrame, atCauses, judgeCauses, readCauses, atReply, judgeReply, readReply, readRoom}
 use Rattle.frame.proofs.Joining.{joining-one}
 use Rattle.frame.proofs.Walking.{complete-at-end}
-use Rattle.frame_laws.specs.Written.{joined, unitRow, frameRow, writable, fullButLast, allUnits, Written, recordingOf, ComesBack, FramesComeBack}
+use Rattle.frame_laws.specs.Written.{joined, unitRow, frameRow, writable, fullButLast, allUnits, Written, recordingOf, ComesBack, FramesComeBack, ObservationCloses}
 
 -- ---- a payload splits into its units
 
@@ -312,10 +312,8 @@ comes-back sync cam before (us ∷ uss) health after ds w j k s = frame-back syn
 
 -- ---- what the packet writer writes
 
--- the observation packet of a camera, with any time and any 29 words, and any packets after it
-pub observation-observes : (cam time : ℕ) (ws packets : List ℕ) → 1 ≤ cam → cam ≤ 3 → length ws ≡ 29
-    → observes (packetFrom (3 + cam) time ws ++ packets) cam ≡ true
-observation-observes cam time ws packets l m n =
+pub observation-closes : ObservationCloses
+observation-closes cam time ws packets l m n =
     let p : List ℕ = packetFrom (3 + cam) time ws in
     let t : permittedType (3 + cam) ≡ true = rw (le-leb 1 (3 + cam) (omega arith), le-leb (3 + cam) 15 (omega arith)) in
     rw (take-at p packets 32 (omega arith), written-is-sound (3 + cam) time ws t n, eq-eqb (3 + cam) (3 + cam) refl)

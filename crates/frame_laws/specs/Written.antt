@@ -1,5 +1,5 @@
 -- FORMAT, "The three demands": demand 2 for frames. A frame that is written chunk by chunk, with its observation packet after it, is complete and gives its data back.
-use Prim.Native.Nat.{ℕ, suc, _%_, _≤_}
+use Prim.Native.Nat.{ℕ, suc, _+_, _%_, _≤_}
 use mathlib.Core.Path.{_≡_}
 use mathlib.Core.Bool.{Bool, true, false, _&&_}
 use mathlib.Core.List.{List, [], _∷_, _++_}
@@ -11,6 +11,7 @@ use Rattle.base.specs.Size.{parityWidth, unitWidth}
 use Rattle.chunk_laws.specs.Stretch.{Laid, words, offset, wholeRow}
 use Rattle.chunk_laws.specs.Written.{accepted, written}
 use Rattle.parity_laws.specs.Units.{Hold}
+use Rattle.health.specs.Writing.{packetFrom}
 use Rattle.frame.specs.Shape.{observes}
 use Rattle.frame.specs.Described.{frame}
 use Rattle.frame_reading.specs.Replies.{atReply, judgeReply, readReply, readRoom}
@@ -74,3 +75,7 @@ FramesComeBack =
     → Written cam uss health ds → wholeRow before ≡ true → wholeRow after ≡ true
     → length (recordingOf sync cam before uss health after) ≤ recordingLimit
     → ComesBack sync cam (offset sync before) (length uss) (recordingOf sync cam before uss health after) ds
+
+-- The observation packet of a camera closes its frame: as the packet writer writes it, with any time and any 29 words, and whatever packets come after it.
+abbrev pub ObservationCloses : Type 0
+ObservationCloses = (cam time : ℕ) (ws packets : List ℕ) → 1 ≤ cam → cam ≤ 3 → length ws ≡ 29 → observes (packetFrom (3 + cam) time ws ++ packets) cam ≡ true
