@@ -1,6 +1,7 @@
 #!/usr/bin/env bash
-# docs/PROMISES.md is held to the repository: it names every public function and no other, every must-fail edit under a function of the edit's crate and
-# no other, and in its map every file is there and has the names that the map gives beside it.
+# docs/PROMISES.md is held to the repository: it names every public function and no other, as a call or as a building block, and so do the ties of the
+# crate `promises`; it names every must-fail edit under a function of the edit's crate and no other, and in its map every file is there and has the names
+# that the map gives beside it.
 set -u
 cd "$(dirname "${BASH_SOURCE[0]}")/.." || exit 1
 python3 - <<'PYTHON'
@@ -37,7 +38,16 @@ def public(crate):
 items = re.findall(r'^(?:\*\*|- ).*(?:\n  .*)*', text, re.M)
 functions = {f for crate in pathlib.Path('crates').iterdir() for f in public(crate.name)}
 descriptors = {f for f in functions if f.split('::')[-1] in ('take', 'flush', 'text', 'number') and f.startswith('program_')}
-compare('function', functions - descriptors, set(re.findall(r'^\*\*`([\w:]+)`\*\*', promised, re.M)))
+kinds = {name: kind for name, kind in re.findall(r'^\*\*`([\w:]+)`\*\*, (call|block):', promised, re.M)}
+compare('function', functions - descriptors, set(kinds))
+
+ties = {
+    name: 'call' if kind == 'Call' else 'block'
+    for path in pathlib.Path('crates/promises/specs/calls').glob('*.antt')
+    for name, kind in re.findall(r'^-- `([\w:]+)`.*\n(?:--.*\n)*abbrev pub \w+ : (Call|Function)$', path.read_text(), re.M)
+}
+compare('tie of', functions - descriptors, set(ties))
+wrong.extend(f'{name} is tied as a {ties[name]} and named as a {kinds[name]}' for name in sorted(set(ties) & set(kinds)) if ties[name] != kinds[name])
 
 edits = {(path.parts[-3], path.stem) for path in pathlib.Path('crates').glob('*/must-fail/*.edit')}
 named, crate = set(), ''

@@ -1,12 +1,17 @@
 -- FORMAT, "Chunks": the header word, legal headers, and confirmation.
-use Prim.Native.Nat.{ℕ, suc, _/_, _%_}
+use Prim.Native.Nat.{ℕ, suc, _+_, _/_, _%_}
 use mathlib.Core.Bool.{Bool, true, false, cond, _&&_, _||_}
 use mathlib.Core.List.{List, [], _∷_}
 use lib.ListN.{length, getD, drop}
 use lib.Dec.{leb, eqb}
+use Rattle.base.specs.Size.{parityWidth, unitWidth, packetWidth}
 use Rattle.chunk.specs.declared.Check.{Check}
 
--- bits 12 to 0: the words after the two of the header
+-- a chunk begins with a header of two words: the sync word and the header word
+abbrev pub headerWidth : ℕ
+headerWidth = 2
+
+-- bits 12 to 0: the words after the header
 abbrev pub size : ℕ → ℕ
 size h = h % 8192
 
@@ -18,13 +23,13 @@ camera h = h / 8192 % 4
 abbrev pub kind : ℕ → ℕ
 kind h = h / 32768 % 2
 
--- an image payload splits into units of 264 words, of which the last may be shorter, but has 9 at the least
+-- an image payload splits into units of 264 words, of which the last may be shorter, but has 9 at the least: the parity words and one data word
 abbrev pub imageSize : ℕ → Bool
-imageSize n = eqb (n % 264) 0 || leb 9 (n % 264)
+imageSize n = eqb (n % unitWidth) 0 || leb (parityWidth + 1) (n % unitWidth)
 
 -- a health payload is whole packets of 32 words
 abbrev pub healthSize : ℕ → Bool
-healthSize n = eqb (n % 32) 0
+healthSize n = eqb (n % packetWidth) 0
 
 -- A payload of n words is legal for a kind: 1 to 8,190 words, by the kind's own rule.
 unfoldable pub legalSize : ℕ → ℕ → Bool
@@ -40,7 +45,7 @@ headed sync [] = false
 headed sync (w ∷ []) = false
 headed sync (w ∷ h ∷ ws) = eqb w sync && legal h
 
--- the words of a chunk with this header word
+-- the words of a chunk with this header word: the two of the header, and the payload
 abbrev pub span : ℕ → ℕ
 span h = suc (suc (size h))
 
@@ -56,3 +61,8 @@ confirmed sync ws = headed sync ws && ends sync (span (getD ws 1 0)) ws
 abbrev pub checkOf : Bool → Check
 checkOf true = Check.Confirmed
 checkOf false = Check.NotAChunk
+
+-- the number of each of its answers
+abbrev pub checkNumber : Check → ℕ
+checkNumber Check.NotAChunk = 0
+checkNumber Check.Confirmed = 1

@@ -68,3 +68,13 @@ found sync at (w ∷ ws) = elim (confirmed sync (w ∷ ws)) [ true ↦ chunkAt a
 -- the next confirmed chunk at or after the place p
 abbrev pub nextFrom : ℕ → List ℕ → ℕ → Found
 nextFrom sync ws p = found sync p (drop p ws)
+
+-- the number of each answer of the search
+abbrev pub foundNumber : Found → ℕ
+foundNumber Found.End = 0
+foundNumber (Found.Chunk e next) = 1
+
+-- and its values: the chunk's position, its header word, and the place past it
+abbrev pub foundValues : Found → List ℕ
+foundValues Found.End = []
+foundValues (Found.Chunk e next) = e .position .0 ∷ e .header ∷ next .0 ∷ []

@@ -48,7 +48,7 @@ pub fn legal_size(kind: u16, size: Words) -> bool
     (1 <= n) & (n <= LONGEST.0) & number::either(kind == 0, image, health)
 }
 
-pub fn legal_word(header: u16) -> bool
+fn legal_word(header: u16) -> bool
     ensures { λ r. ⌜ r ≡ legal header ⌝ }
 {
     let kind = kind_of(header);

@@ -15,7 +15,8 @@ use Rattle.chunk.specs.declared.Entry.{Entry}
 use Rattle.chunk.specs.Header.{size, headed, confirmed}
 use Rattle.chunk.specs.Reading.{entry, listed, reading, skippedFrom, leftAt, listedAt}
 use Rattle.chunk.proofs.Steps.{listed-at-yes}
-use Rattle.chunk_laws.specs.Resync.{_∈_, from, moved}
+use Rattle.chunk_laws.specs.Listed.{Among}
+use Rattle.chunk_laws.specs.Resync.{from, moved}
 use Rattle.chunk_laws.proofs.Tests.{by-test}
 
 -- ---- one word read where no chunk is in hand, by whether one is confirmed there
@@ -94,7 +95,7 @@ listed-moved sync n at zero (w ∷ ws) =
 
 -- ---- a chunk is listed at a place exactly if its entry is in the list
 
-from-part : (p : ℕ) (e : Entry) (es : List Entry) → e ∈ from p es → e ∈ es
+from-part : (p : ℕ) (e : Entry) (es : List Entry) → Among e (from p es) → Among e es
 unfolding from
 from-part p e [] h = h
 from-part p e (f ∷ es) h =
@@ -104,7 +105,7 @@ not-empty : (sync : ℕ) → confirmed sync [] ≡ true → ⊥
 unfolding confirmed headed
 not-empty sync e = false≢true e
 
-pub place-listed : (sync p : ℕ) (ws : List ℕ) → listedAt sync ws p ≡ true → entry p (getD (drop p ws) 1 0) ∈ reading sync ws
+pub place-listed : (sync p : ℕ) (ws : List ℕ) → listedAt sync ws p ≡ true → Among (entry p (getD (drop p ws) 1 0)) (reading sync ws)
 unfolding listedAt
 place-listed sync p ws h =
     let z : leftAt sync 0 ws p ≡ 0 = eqb-true (leftAt sync 0 ws p) 0 (and-left (eqb (leftAt sync 0 ws p) 0) _ h) in
@@ -112,7 +113,7 @@ place-listed sync p ws h =
     let f : from p (reading sync ws) ≡ listed sync p 0 (drop p ws) = rw z at (reading-from sync p ws) in
     from-part p (entry p (getD (drop p ws) 1 0)) (reading sync ws) (rw f (front p (drop p ws) c))
   where
-    front : (at : ℕ) (vs : List ℕ) → confirmed sync vs ≡ true → entry at (getD vs 1 0) ∈ listed sync at 0 vs
+    front : (at : ℕ) (vs : List ℕ) → confirmed sync vs ≡ true → Among (entry at (getD vs 1 0)) (listed sync at 0 vs)
     front at [] e = absurd (not-empty sync e)
     front at (v ∷ vs) e = rw (list-step sync at v vs true e) (inl refl)
 
@@ -123,7 +124,7 @@ record Placed (sync at left : ℕ) (ws : List ℕ) (e : Entry) : Type 0 where
   free : leftAt sync left ws place ≡ 0
   there : confirmed sync (drop place ws) ≡ true
 
-placed : (sync at left : ℕ) (ws : List ℕ) (e : Entry) → e ∈ listed sync at left ws → Placed sync at left ws e
+placed : (sync at left : ℕ) (ws : List ℕ) (e : Entry) → Among e (listed sync at left ws) → Placed sync at left ws e
 unfolding listed leftAt
 placed sync at left [] e h = absurd h
 placed sync at (suc left) (w ∷ ws) e h =
@@ -151,7 +152,7 @@ placed sync at zero (w ∷ ws) e h =
           there = t .there;
         }
 
-pub listed-place : (sync : ℕ) (ws : List ℕ) (e : Entry) → e ∈ reading sync ws
+pub listed-place : (sync : ℕ) (ws : List ℕ) (e : Entry) → Among e (reading sync ws)
     → (listedAt sync ws (e .position .0) ≡ true) × (e .header ≡ getD (drop (e .position .0) ws) 1 0)
 listed-place sync ws e h =
     let t : Placed sync 0 0 ws e = placed sync 0 0 ws e h in

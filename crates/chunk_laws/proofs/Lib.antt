@@ -1,6 +1,8 @@
 pub mod Tests
 pub mod Accounting
 pub mod ByPlace
+pub mod Listed
+pub mod Answers
 pub mod Rows
 pub mod Stretch
 pub mod Resync

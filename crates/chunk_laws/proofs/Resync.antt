@@ -18,7 +18,8 @@ use Rattle.chunk.specs.Reading.{entry, reading, leftAt, listedAt}
 use Rattle.chunk.proofs.Headers.{legal-bounds, headed-parts, ends-within}
 use Rattle.chunk.proofs.Steps.{left-split, left-on}
 use Rattle.chunk_laws.specs.Stretch.{Laid, words, offset, wholeRow, clean, unbroken}
-use Rattle.chunk_laws.specs.Resync.{_∈_, from, moved, ReadAsAlone}
+use Rattle.chunk_laws.specs.Listed.{Among}
+use Rattle.chunk_laws.specs.Resync.{from, moved, ReadAsAlone}
 use Rattle.chunk_laws.proofs.Tests.{by-test}
 use Rattle.chunk_laws.proofs.ByPlace.{left-end, reading-from, listed-moved, place-listed, listed-place}
 use Rattle.chunk_laws.proofs.Rows.{whole-legal, ends-step, ends-past, row-first, row-after, row-at, words-parts, row-listed}
@@ -135,7 +136,7 @@ module _ (sync : ℕ) (a : List ℕ) (cs : List Laid) (k : unbroken sync cs ≡ 
 
   -- A chunk that begins 8,175 words or more after the stretch's start is listed: it would end 8,186 words or more after it.
   pub chunk-listed : (before : List Laid) (c : Laid) (after : List Laid) → cs ≡ before ++ c ∷ after → 8175 ≤ offset sync before
-      → entry (length a + offset sync before) (c .header) ∈ reading sync (a ++ words sync cs)
+      → Among (entry (length a + offset sync before) (c .header)) (reading sync (a ++ words sync cs))
   chunk-listed before c after e h =
       let p : ℕ = offset sync before in
       let s : List ℕ = words sync cs in

@@ -10,10 +10,16 @@ use native.Mathlib.Numerals.{one-add}
 use lib.ListN.{length, getD}
 use lib.Dec.{ltb}
 use borrow.Author.Tests.{lt-ltb, le-ltb, le-leb, lt-leb}
+use Rattle.base.specs.Limit.{recordingLimit}
+use Rattle.base.specs.Refusal.{verdict}
+use Rattle.base.proofs.Refused.{answer-yes}
 use Rattle.chunk.specs.Header.{size, span, confirmed}
 use Rattle.chunk.specs.Reading.{listed, reading, skippedFrom, skipped}
-use Rattle.chunk_laws.specs.Outside.{covered, failing, outside}
+use Rattle.chunk_reading.specs.declared.Survey.{Survey}
+use Rattle.chunk_reading.specs.Counting.{surveyCauses, refused, surveyReply}
+use Rattle.chunk_laws.specs.Outside.{covered, failing, outside, SkippedByPlace}
 use Rattle.chunk_laws.proofs.Tests.{by-test}
+use Rattle.chunk_laws.proofs.Accounting.{accounted}
 use Rattle.chunk_laws.proofs.ByPlace.{list-step, skip-step}
 
 -- no chunk that is listed from `at` on covers a place before it
@@ -58,5 +64,14 @@ count-failing f sync at zero (w ∷ ws) k =
     ∙ ap suc (count-failing f sync (suc at) 0 ws (λ p l. past p (omega arith) ∙ rw (list-step sync at w ws false e, le-ltb p (suc at + 0) (omega arith))))
     ∙ sym (skip-step sync w ws false e))
 
-pub skipped-outside : (sync : ℕ) (ws : List ℕ) → outside (reading sync ws) (length ws) ≡ skipped sync ws
+skipped-outside : (sync : ℕ) (ws : List ℕ) → outside (reading sync ws) (length ws) ≡ skipped sync ws
 skipped-outside sync ws = count-failing (covered (reading sync ws)) sync 0 0 ws (λ p h. rw (le-ltb p 0 (omega arith)))
+
+pub skipped-by-place : SkippedByPlace
+skipped-by-place sync ws = record {
+  byPlace = sym (skipped-outside sync ws);
+  accounts = accounted sync ws;
+  surveyed = λ short.
+      ap (λ (s : Survey). s .skipped .0) (answer-yes (verdict (surveyCauses ws)) refused _ (rw (le-ltb recordingLimit (length ws) short)))
+      ∙ sym (skipped-outside sync ws);
+}

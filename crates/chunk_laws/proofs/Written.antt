@@ -1,47 +1,36 @@
--- A written chunk is given back by the reading, alone and before another: the fields of its header word are those it was made of, so it is a whole
--- chunk, and a row of whole chunks is listed whole.
-use mathlib.Core.Path.{_≡_, refl, sym, ap, _∙_}
+-- What the writer wrote is given back. An accepted call leaves the words of its chunk in the room; the fields of the header word are those that it was
+-- made of, so it is a whole chunk. A row of whole chunks is listed whole, and where each begins no words of another are left, so one is listed there.
+use mathlib.Core.Path.{_≡_, refl, sym, ap, ap₂, _∙_}
 use mathlib.Core.Bool.{true, _&&_, _||_}
-use mathlib.Core.List.{List, [], _∷_, _++_, append-nil}
-use Prim.Native.Nat.{ℕ, _+_, _≤_}
+use mathlib.Core.List.{List, [], _∷_, _++_, map, append-nil}
+use Prim.Native.Nat.{ℕ, suc, _+_, _≤_}
 use native.Mathlib.Omega.{arith}
-use lib.ListN.{length, getD, drop, take, length-append}
-use lib.Seq.{drop-drop}
+use native.Mathlib.Nat.{add-zero}
+use lib.ListN.{length, getD, drop, take}
+use lib.Seq.{drop-drop, take-at}
 use lib.Dec.{eqb}
-use borrow.Author.Tests.{eq-eqb, not-false, le-ltb}
+use borrow.Author.Tests.{eq-eqb, not-false, le-ltb, ltb-false}
 use Rattle.base.proofs.Booleans.{and-left, and-right}
 use Rattle.base.specs.Limit.{recordingLimit}
-use Rattle.base.specs.Refusal.{verdict}
-use Rattle.base.proofs.Refused.{spared, answer-yes}
-use Rattle.chunk.specs.Header.{size, camera, kind, span, legalSize, legal}
-use Rattle.chunk.specs.Reading.{entry}
+use Rattle.base.specs.Refusal.{verdict, answer, settled}
+use Rattle.base.proofs.Refused.{spared, answer-yes, settled-refusal}
+use Rattle.base_room.specs.Room.{put}
+use Rattle.base_room.proofs.RoomLaws.{put-fits}
+use Rattle.chunk.specs.declared.Entry.{Entry}
+use Rattle.chunk.specs.Header.{size, camera, kind, span, legalSize, legal, confirmed}
+use Rattle.chunk.specs.Reading.{entry, reading, skipped, leftAt, listedAt}
 use Rattle.chunk.proofs.Headers.{legal-size}
-use Rattle.chunk_reading.specs.Place.{atCauses, heading, refused, headingOf, atReply, payloadReply}
-use Rattle.chunk_writing.specs.Writing.{writable, writeCauses, headerWord}
+use Rattle.chunk.proofs.Steps.{left-split, listed-at-yes}
+use Rattle.chunk_reading.specs.Counting.{surveyCauses, surveyed, refused, surveyReply}
+use Rattle.chunk_reading.specs.Place.{heading, headingOf, atReply, payloadReply}
+use Rattle.chunk_writing.specs.Writing.{writable, writeCauses, headerWord, chunkOf, writeReply, writeRoom}
 use Rattle.chunk_writing.proofs.Wrote.{writable-bounds}
-use Rattle.chunk_laws.specs.Stretch.{Laid, words, offset, whole, wholeRow}
-use Rattle.chunk_laws.specs.Written.{accepted, written, Holds, Alone, Followed}
+use Rattle.chunk_register.specs.Register.{listCauses, entered, listReply, listRoom}
+use Rattle.chunk_laws.specs.Stretch.{Laid, words, entries, whole, wholeRow}
+use Rattle.chunk_laws.specs.Written.{Call, reply, left, Accepted, recorded, told, GivenAt, entriesAt, GivenBack, WrittenAlone, WrittenInRows, accepted, written}
 use Rattle.chunk_laws.proofs.Tests.{and-both}
-use Rattle.chunk_laws.proofs.ByPlace.{place-listed, listed-place}
-use Rattle.chunk_laws.proofs.Rows.{whole-length, row-first, row-after, row-at, row-listed, payload-there, lists-row, skips-none}
-
--- a row of whole chunks gives each of them back, where it stands
-pub row-holds : (sync : ℕ) (before : List Laid) (c : Laid) (after : List Laid) → wholeRow (before ++ c ∷ after) ≡ true
-    → Holds sync (words sync (before ++ c ∷ after)) (offset sync before) (kind (c .header)) (camera (c .header)) (c .payload)
-row-holds sync before c after k =
-    let p : ℕ = offset sync before in
-    let ws : List ℕ = words sync (before ++ c ∷ after) in
-    let here : drop p ws ≡ words sync (c ∷ after) = row-at sync before (c ∷ after) refl in
-    record {
-      header = c .header;
-      there = rw here at (place-listed sync p ws (row-listed sync before c after k));
-      ofKind = refl;
-      ofCamera = refl;
-      ofSize = sym (whole-length c (row-first c after (row-after before (c ∷ after) k)));
-      carries =
-          ap (take (size (c .header))) (sym (drop-drop 2 p ws) ∙ ap (drop 2) here)
-          ∙ payload-there sync c after (row-first c after (row-after before (c ∷ after) k));
-    }
+use Rattle.chunk_laws.proofs.Listed.{place-answered}
+use Rattle.chunk_laws.proofs.Rows.{row-first, row-rest, row-confirmed, row-drop, payload-there, left-rest, lists-row, skips-none}
 
 -- ---- the fields of a header word that is made of them
 
@@ -71,52 +60,139 @@ module _ (k c : ℕ) (payload : List ℕ) (w : accepted k c payload ≡ true) wh
       (and-both (legalSize k (length payload) && _) _ (and-both (legalSize k (length payload)) _ legal-length (accepted-bounds .2))
       (eq-eqb (length payload) (length payload) refl))
 
--- what the writer does not refuse
-pub accepted-written : (k c room : ℕ) (payload : List ℕ) → verdict (writeCauses k c (length payload) room) ≡ 0 → accepted k c payload ≡ true
-accepted-written k c room payload z =
-    let s = spared (writeCauses k c (length payload) room) refl z in
-    and-both (writable k c) _ (not-false (writable k c) (s .0)) (not-false (legalSize k (length payload)) (s .1 .0))
+-- ---- an accepted call
 
--- ---- a written chunk in a recording
+-- the chunk that a call writes
+abbrev laid : Call → Laid
+laid c = written (c .kind) (c .camera) (c .payload)
 
-pub written-alone : (sync k c : ℕ) (payload : List ℕ) → accepted k c payload ≡ true → Alone sync k c payload
+module _ (c : Call) (z : reply c .refusal ≡ 0) where
+  abbrev number : ℕ
+  number = verdict (writeCauses (c .kind) (c .camera) (length (c .payload)) (length (c .room)))
+
+  none-refused : number ≡ 0
+  none-refused = sym (settled-refusal number (length (c .payload) + 2)) ∙ z
+
+  -- it gave the writer what it takes
+  pub accepted-taken : accepted (c .kind) (c .camera) (c .payload) ≡ true
+  accepted-taken =
+      let s = spared (writeCauses (c .kind) (c .camera) (length (c .payload)) (length (c .room))) refl none-refused in
+      and-both (writable (c .kind) (c .camera)) _ (not-false _ (s .0)) (not-false _ (s .1 .0))
+
+  enough-room : length (c .payload) + 2 ≤ length (c .room)
+  enough-room =
+      let s = spared (writeCauses (c .kind) (c .camera) (length (c .payload)) (length (c .room))) refl none-refused in
+      ltb-false (length (c .room)) (length (c .payload) + 2) (s .1 .1 .0)
+
+  length-replied : reply c .length .0 ≡ length (c .payload) + 2
+  unfolding settled
+  length-replied = rw (answer-yes number _ _ none-refused)
+
+  -- and left the words of its chunk
+  chunk-left : (sync : ℕ) → left sync c ≡ chunkOf sync (c .kind) (c .camera) (c .payload)
+  unfolding writeRoom
+  chunk-left sync =
+      let ws : List ℕ = chunkOf sync (c .kind) (c .camera) (c .payload) in
+      ap₂ (λ (n : ℕ) (l : List ℕ). take n l) length-replied (answer-yes number _ _ none-refused ∙ put-fits ws 0 (c .room) (omega (arith, enough-room)))
+      ∙ take-at ws (drop (0 + length ws) (c .room)) (length (c .payload) + 2) (omega arith)
+
+-- ---- a row of accepted calls
+
+row-whole : (cs : List Call) → Accepted cs → wholeRow (map laid cs) ≡ true
 unfolding wholeRow
-written-alone sync k c payload w =
-    let a : Laid = written k c payload in
-    let row : wholeRow (a ∷ []) ≡ true = and-both (whole a) true (written-whole k c payload w) refl in
-    record {
-      lists = rw append-nil at (lists-row sync 0 (a ∷ []) row);
-      skips = rw append-nil at (skips-none sync (a ∷ []) row);
-      holds = rw (append-nil, kind-written k c payload w, camera-written k c payload w) at (row-holds sync [] a [] row);
-    }
+row-whole [] a = refl
+row-whole (c ∷ cs) a =
+    and-both (whole (laid c)) _ (written-whole (c .kind) (c .camera) (c .payload) (accepted-taken c (a .0))) (row-whole cs (a .1))
 
-pub written-followed : (sync k c : ℕ) (payload : List ℕ) (k′ c′ : ℕ) (payload′ : List ℕ) → accepted k c payload ≡ true → accepted k′ c′ payload′ ≡ true
-    → Followed sync k c payload k′ c′ payload′
-unfolding wholeRow
-written-followed sync k c payload k′ c′ payload′ w w′ =
-    let a : Laid = written k c payload in
-    let b : Laid = written k′ c′ payload′ in
-    let row : wholeRow (a ∷ b ∷ []) ≡ true =
-    and-both (whole a) _ (written-whole k c payload w) (and-both (whole b) true (written-whole k′ c′ payload′ w′) refl) in
-    let n : 0 + span (a .header) ≡ length payload + 2 = omega (arith, size-written k c payload w) in
-    let m : offset sync (a ∷ []) ≡ length payload + 2 = omega (arith, length-append payload []) in
-    record {
-      lists = rw (append-nil payload′, n) at (lists-row sync 0 (a ∷ b ∷ []) row);
-      skips = rw (append-nil payload′) at (skips-none sync (a ∷ b ∷ []) row);
-      holds = rw (append-nil payload′, kind-written k c payload w, camera-written k c payload w) at (row-holds sync [] a (b ∷ []) row);
-      holdsNext = rw (append-nil payload′, m, kind-written k′ c′ payload′ w′, camera-written k′ c′ payload′ w′) at (row-holds sync (a ∷ []) b [] row);
-    }
+recorded-words : (sync : ℕ) (cs : List Call) → Accepted cs → recorded sync cs ≡ words sync (map laid cs)
+recorded-words sync [] a = refl
+recorded-words sync (c ∷ cs) a = ap₂ (λ (xs ys : List ℕ). xs ++ ys) (chunk-left c (a .0) sync) (recorded-words sync cs (a .1))
 
--- ---- and so the calls for a place answer what was written, in a recording that is not too long
+-- the place past a chunk of the row
+span-replied : (c : Call) → reply c .refusal ≡ 0 → (p : ℕ) → p + span (laid c .header) ≡ p + reply c .length .0
+span-replied c z p = omega (arith, length-replied c z, size-written (c .kind) (c .camera) (c .payload) (accepted-taken c z))
 
-pub given-back : (sync p k c : ℕ) (ws payload : List ℕ) → length ws ≤ recordingLimit → Holds sync ws p k c payload
-    → (atReply sync ws p ≡ heading 0 k c (length payload)) × (payloadReply sync ws p ≡ payload)
-given-back sync p k c ws payload l h =
-    let t = listed-place sync ws (entry p (h .header)) (h .there) in
-    let z : verdict (atCauses sync ws p) ≡ 0 = rw (le-ltb recordingLimit (length ws) l, t .0) in
-    let w : ℕ = getD (drop p ws) 1 0 in
-    let e : w ≡ h .header = sym (t .1) in (
-      answer-yes (verdict (atCauses sync ws p)) refused (headingOf w) z ∙ rw (e, h .ofKind, h .ofCamera, h .ofSize),
-      answer-yes (verdict (atCauses sync ws p)) (λ v. []) (take (size w) (drop 2 (drop p ws))) z
-          ∙ rw (e, drop-drop 2 p ws) (h .carries),
+row-entries : (p : ℕ) (cs : List Call) → Accepted cs → entries p (map laid cs) ≡ entriesAt p cs
+row-entries p [] a = refl
+row-entries p (c ∷ cs) a =
+    ap (λ (es : List Entry). entry p (laid c .header) ∷ es)
+    (ap (λ (n : ℕ). entries n (map laid cs)) (span-replied c (a .0) p) ∙ row-entries (p + reply c .length .0) cs (a .1))
+
+entries-many : (p : ℕ) (cs : List Call) → length (entriesAt p cs) ≡ length cs
+entries-many p [] = refl
+entries-many p (c ∷ cs) = ap suc (entries-many (p + reply c .length .0) cs)
+
+-- what a header word says
+header-told : (c : Call) → reply c .refusal ≡ 0 → headingOf (laid c .header) ≡ told c
+header-told c z =
+    let w = accepted-taken c z in
+    rw (kind-written (c .kind) (c .camera) (c .payload) w, camera-written (c .kind) (c .camera) (c .payload) w, size-written (c .kind) (c .camera) (c .payload) w)
+
+headers-told : (p : ℕ) (cs : List Call) → Accepted cs → map (λ (e : Entry). headingOf (e .header)) (entriesAt p cs) ≡ map told cs
+headers-told p [] a = refl
+headers-told p (c ∷ cs) a = ap₂ (λ x xs. x ∷ xs) (header-told c (a .0)) (headers-told (p + reply c .length .0) cs (a .1))
+
+-- ---- what the calls that read answer
+
+-- at each place where the words from there on are a row, and no words of another chunk are left
+each-given : (sync : ℕ) (ws : List ℕ) → length ws ≤ recordingLimit → (p : ℕ) (cs : List Call) → Accepted cs → leftAt sync 0 ws p ≡ 0
+    → drop p ws ≡ words sync (map laid cs) → GivenAt sync ws p cs
+unfolding leftAt
+each-given sync ws short p [] a free here = tt
+each-given sync ws short p (c ∷ cs) a free here =
+    let h : ℕ = laid c .header in
+    let row : wholeRow (laid c ∷ map laid cs) ≡ true = row-whole (c ∷ cs) a in
+    let t : whole (laid c) ≡ true = row-first (laid c) (map laid cs) row in
+    let there : listedAt sync ws p ≡ true = listed-at-yes sync p ws free (ap (confirmed sync) here ∙ row-confirmed sync (laid c) (map laid cs) row) in
+    let answers = place-answered sync ws short p there in
+    let word : getD (drop p ws) 1 0 ≡ h = ap (λ (l : List ℕ). getD l 1 0) here in
+    let next : p + span h ≡ p + reply c .length .0 = span-replied c (a .0) p in (
+      answers .0 ∙ ap headingOf word ∙ header-told c (a .0),
+      answers .1
+          ∙ ap (λ (x : ℕ). take (size x) (drop (p + 2) ws)) word
+          ∙ ap (take (size h)) (sym (drop-drop 2 p ws) ∙ ap (drop 2) here)
+          ∙ payload-there sync (laid c) (map laid cs) t,
+      each-given sync ws short (p + reply c .length .0) cs (a .1)
+          (ap (λ (n : ℕ). leftAt sync 0 ws n) (sym next)
+          ∙ left-split sync 0 p (span h) ws
+          ∙ ap₂ (λ (k : ℕ) (l : List ℕ). leftAt sync k l (span h)) free here
+          ∙ ap (λ (n : ℕ). leftAt sync 0 (words sync (laid c ∷ map laid cs)) n) (sym (add-zero (span h)))
+          ∙ left-rest sync (laid c) (map laid cs) row 0)
+          (ap (λ (n : ℕ). drop n ws) (sym next) ∙ sym (drop-drop (span h) p ws) ∙ ap (drop (span h)) here ∙ row-drop sync (laid c) (map laid cs) t),
     )
+
+-- words that are a row of accepted calls, in a recording within the limit
+module _ (sync : ℕ) (ws : List ℕ) (short : length ws ≤ recordingLimit) (cs : List Call) (a : Accepted cs) (e : ws ≡ words sync (map laid cs)) where
+  list-given : reading sync ws ≡ entriesAt 0 cs
+  list-given = ap (reading sync) e ∙ lists-row sync 0 (map laid cs) (row-whole cs a) ∙ row-entries 0 cs a
+
+  many-given : length (reading sync ws) ≡ length cs
+  many-given = ap length list-given ∙ entries-many 0 cs
+
+  counted : surveyed 0 (length (reading sync ws)) (skipped sync ws) ≡ surveyed 0 (length cs) 0
+  counted = ap₂ (surveyed 0) many-given (ap (skipped sync) e ∙ skips-none sync (map laid cs) (row-whole cs a))
+
+  survey-given : surveyReply sync ws ≡ surveyed 0 (length cs) 0
+  survey-given = answer-yes (verdict (surveyCauses ws)) refused _ (rw (le-ltb recordingLimit (length ws) short)) ∙ counted
+
+  register-given : (register : List Entry) → length cs ≤ length register
+      → (listReply sync ws (length register) ≡ surveyed 0 (length cs) 0) × (listRoom sync ws register ≡ entered (entriesAt 0 cs) register)
+  unfolding listReply listRoom
+  register-given register enough =
+      let z : verdict (listCauses sync ws (length register)) ≡ 0 =
+      rw (le-ltb recordingLimit (length ws) short, le-ltb (length register) (length (reading sync ws)) (omega (arith, many-given))) in
+      (answer-yes _ refused _ z ∙ counted, answer-yes _ (λ v. register) _ z ∙ ap (λ (es : List Entry). entered es register) list-given)
+
+  given : GivenBack sync ws cs
+  unfolding leftAt
+  given = record { survey = survey-given; each = each-given sync ws short 0 cs a refl e; register = register-given; headers = headers-told 0 cs a }
+
+pub written-in-rows : WrittenInRows
+written-in-rows sync cs a short = given sync (recorded sync cs) short cs a (recorded-words sync cs a)
+
+-- a chunk alone has 8,186 words at the most
+pub written-alone : WrittenAlone
+written-alone sync c z =
+    let short : length (left sync c) ≤ recordingLimit =
+    omega (arith, ap length (chunk-left c z sync), small (c .kind) (c .camera) (c .payload) (accepted-taken c z)) in
+    given sync (left sync c) short (c ∷ []) (z, tt) (sym (append-nil (left sync c)) ∙ recorded-words sync (c ∷ []) (z, tt))

@@ -3,19 +3,13 @@ use Prim.Native.Nat.{ℕ, _+_, _≤_}
 use mathlib.Core.Path.{_≡_}
 use mathlib.Core.Bool.{true, false}
 use mathlib.Core.List.{List, [], _∷_, _++_, map}
-use mathlib.Core.Logic.{_⊎_}
 use lib.ListN.{length}
 use lib.Dec.{leb}
 use Rattle.chunk.specs.declared.Entry.{Entry}
 use Rattle.chunk.specs.Reading.{entry, reading}
 use Rattle.chunk_laws.specs.Stretch.{Laid, words, offset}
+use Rattle.chunk_laws.specs.Listed.{Among}
 
--- e is an entry of the list
-abbrev pub _∈_ : Entry → List Entry → Type 0
-_∈_ e [] = ⊥
-_∈_ e (f ∷ es) = (e ≡ f) ⊎ (_∈_ e es)
-
-infix 40 _∈_
 -- the list from the place p on: from its first entry that stands at p or later
 unfoldable pub from : ℕ → List Entry → List Entry
 from p [] = []
@@ -29,9 +23,9 @@ moved n es = map (λ (e : Entry). entry (n + e .position .0) (e .header)) es
 pub record ReadAsAlone (sync : ℕ) (a : List ℕ) (cs : List Laid) : Type 0 where
   -- every chunk that begins 8,185 words or more after the stretch's start is listed
   pub late : (before : List Laid) (c : Laid) (after : List Laid) → cs ≡ before ++ c ∷ after → 8185 ≤ offset sync before
-      → entry (length a + offset sync before) (c .header) ∈ reading sync (a ++ words sync cs)
+      → Among (entry (length a + offset sync before) (c .header)) (reading sync (a ++ words sync cs))
   -- from each of its chunks that is listed, and so from the first, the list is that of the stretch alone, moved by the words of `a`
   pub onward : (before : List Laid) (c : Laid) (after : List Laid) → cs ≡ before ++ c ∷ after
-      → entry (length a + offset sync before) (c .header) ∈ reading sync (a ++ words sync cs)
+      → Among (entry (length a + offset sync before) (c .header)) (reading sync (a ++ words sync cs))
       → from (length a + offset sync before) (reading sync (a ++ words sync cs))
       ≡ moved (length a) (from (offset sync before) (reading sync (words sync cs)))

@@ -1,9 +1,9 @@
 -- The runs of a list of chunks are longest rows of adjacent chunks of one kind, and no other way to part the list is.
-use mathlib.Core.Path.{_≡_, refl, ap, _∙_}
+use mathlib.Core.Path.{_≡_, refl, sym, ap, _∙_}
 use mathlib.Core.Bool.{Bool, true, false, cond}
 use mathlib.Core.List.{List, [], _∷_, _++_}
 use Rattle.chunk.specs.declared.Entry.{Entry}
-use Rattle.chunk_outline.specs.Runs.{adjacent, before, runs, Row, Cut, Longest, Parted, joined}
+use Rattle.chunk_outline.specs.Runs.{adjacent, before, runs, Row, Cut, Longest, Parted, joined, RunsAreLongest, OnlyRuns}
 
 before-joined : (e : Entry) (rows : List (List Entry)) → joined (before e rows) ≡ e ∷ joined rows
 unfolding before
@@ -26,12 +26,12 @@ before-parted e ((f ∷ row) ∷ rows) p = by-test (adjacent e f) refl
     by-test false a = (tt, a, p)
 
 -- the runs are the chunks, parted
-pub runs-joined : (es : List Entry) → joined (runs es) ≡ es
+runs-joined : (es : List Entry) → joined (runs es) ≡ es
 unfolding runs
 runs-joined [] = refl
 runs-joined (e ∷ es) = before-joined e (runs es) ∙ ap (λ (l : List Entry). e ∷ l) (runs-joined es)
 
-pub runs-parted : (es : List Entry) → Parted (runs es)
+runs-parted : (es : List Entry) → Parted (runs es)
 unfolding runs
 runs-parted [] = tt
 runs-parted (e ∷ es) = before-parted e (runs es) (runs-parted es)
@@ -50,8 +50,13 @@ row-first [] rows r l e = absurd r
 row-first (e ∷ []) rows r l q = ap (before e) q ∙ ends-row e rows l
 row-first (e ∷ f ∷ row) rows r l q = ap (before e) (row-first (f ∷ row) rows (r .1) l q) ∙ rw (r .0)
 
--- and nothing else is
-pub only-runs : (rows : List (List Entry)) → Parted rows → runs (joined rows) ≡ rows
+rows-are-runs : (rows : List (List Entry)) → Parted rows → runs (joined rows) ≡ rows
 unfolding runs
-only-runs [] p = refl
-only-runs (row ∷ rows) p = row-first row rows (p .0) (p .1) (only-runs rows (p .2))
+rows-are-runs [] p = refl
+rows-are-runs (row ∷ rows) p = row-first row rows (p .0) (p .1) (rows-are-runs rows (p .2))
+
+pub runs-are-longest : RunsAreLongest
+runs-are-longest es = (runs-joined es, runs-parted es)
+
+pub only-runs : OnlyRuns
+only-runs es rows j p = sym (ap runs (sym j) ∙ rows-are-runs rows p)

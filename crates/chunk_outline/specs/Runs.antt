@@ -32,7 +32,7 @@ unfoldable pub countKind : ℕ → List (List Entry) → ℕ
 countKind k [] = 0
 countKind k (row ∷ rows) = cond (ofKind k row) 1 0 + countKind k rows
 
--- ---- The rule's own words, of any way to part a list of chunks. `proofs/Longest` has that the runs are one such way, and the only one.
+-- ---- the rule's own words, of any way to part a list of chunks: the runs are one such way, and the only one
 
 -- a row: each chunk follows the one before it
 abbrev pub Row : List Entry → Type 0
@@ -61,3 +61,11 @@ Parted (row ∷ rows) = Row row × Longest row rows × Parted rows
 abbrev pub joined : List (List Entry) → List Entry
 joined [] = []
 joined (row ∷ rows) = row ++ joined rows
+
+-- the runs of a list are its chunks, in rows that are each as long as can be
+abbrev pub RunsAreLongest : Type 0
+RunsAreLongest = (es : List Entry) → (joined (runs es) ≡ es) × Parted (runs es)
+
+-- and no other rows of its chunks are
+abbrev pub OnlyRuns : Type 0
+OnlyRuns = (es : List Entry) (rows : List (List Entry)) → joined rows ≡ es → Parted rows → rows ≡ runs es

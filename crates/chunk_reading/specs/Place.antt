@@ -4,7 +4,7 @@ use mathlib.Core.Bool.{not}
 use mathlib.Core.List.{List, [], _∷_, _++_}
 use lib.ListN.{getD, take, drop}
 use Rattle.base.specs.Refusal.{Causes, nothingThere, verdict, answer}
-use Rattle.chunk.specs.Header.{size, camera, kind}
+use Rattle.chunk.specs.Header.{headerWidth, size, camera, kind}
 use Rattle.chunk.specs.Reading.{listedAt}
 use Rattle.chunk_reading.specs.declared.Heading.{Heading}
 use Rattle.chunk_reading.specs.Counting.{surveyCauses}
@@ -31,4 +31,4 @@ atReply sync ws place = answer (verdict (atCauses sync ws place)) refused (headi
 -- the payload of the chunk at a place: the words after its header, as many as it says; none on a refusal
 abbrev pub payloadReply : ℕ → List ℕ → ℕ → List ℕ
 payloadReply sync ws place =
-    answer (verdict (atCauses sync ws place)) (λ v. []) (take (size (getD (drop place ws) 1 0)) (drop 2 (drop place ws)))
+    answer (verdict (atCauses sync ws place)) (λ v. []) (take (size (getD (drop place ws) 1 0)) (drop headerWidth (drop place ws)))

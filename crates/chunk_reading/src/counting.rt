@@ -1,4 +1,5 @@
 // The chunks of a recording and the words between them, counted.
+use crate::Counts;
 use crate::Survey;
 use base::Words;
 use base::limit;
@@ -19,7 +20,7 @@ pub fn refused(number: u8) -> Survey
 }
 
 // The chunks and the skipped words of any words.
-pub fn count(words: &[u16], sync: u16) -> Survey
+pub fn count(words: &[u16], sync: u16) -> Counts
     ensures { λ r. ⌜ r ≡ countReply sync (now (words .entry)) ⌝ }
 {
     let mut chunks: usize = 0;
@@ -29,8 +30,7 @@ pub fn count(words: &[u16], sync: u16) -> Survey
         let found = search::next(words, sync, Words(at));
         let Found::Chunk(entry, next) = found else {
             let all = skipped + (words.len() - at);
-            return Survey {
-                refusal: 0,
+            return Counts {
                 chunks: chunks,
                 skipped: Words(all),
             };
@@ -49,5 +49,11 @@ pub fn survey(recording: &[u16], sync: u16) -> Survey
     if limit::too_long(recording) {
         return refused(refusal::LENGTH);
     }
-    count(recording, sync)
+    let counts = count(recording, sync);
+    let skipped = counts.skipped;
+    Survey {
+        refusal: 0,
+        chunks: counts.chunks,
+        skipped: skipped,
+    }
 }

@@ -4,6 +4,12 @@ pub mod place;
 
 use base::Words;
 
+// The chunks of words, and the words inside none of them.
+pub struct Counts {
+    pub chunks: usize,
+    pub skipped: Words,
+}
+
 // What a survey of a recording answers.
 pub struct Survey {
     pub refusal: u8,

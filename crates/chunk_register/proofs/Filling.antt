@@ -41,21 +41,21 @@ module _ (sync : ℕ) (ws : List ℕ) (before : List Entry) where
 
   -- the step from a place where the chunk c and then others are listed
   module _ (at : ℕ) (c : Entry) (others : List Entry) (l : listed sync at 0 (drop at ws) ≡ c ∷ others) where
-    by-found : (f : Found) → nextFrom sync ws at ≡ f → (stepTo f .entry ≡ c) × (listed sync (stepTo f .end) 0 (drop (stepTo f .end) ws) ≡ others)
+    by-found : (f : Found) → nextFrom sync ws at ≡ f → (stepTo f .entry ≡ c) × (listed sync (stepTo f .end .0) 0 (drop (stepTo f .end .0) ws) ≡ others)
     unfolding stepTo
     by-found Found.End e = let q = ended sync ws at e .lists in let z : _≡_ {A = ℕ} 0 1 = cc in absurd (omega arith)
     by-found (Found.Chunk f next) e = let q = stepped sync ws at f next e .lists in (cc, cc)
 
-    step-found : (t : Step) → t ≡ stepFrom sync ws at → (t .entry ≡ c) × (listed sync (t .end) 0 (drop (t .end) ws) ≡ others)
+    step-found : (t : Step) → t ≡ stepFrom sync ws at → (t .entry ≡ c) × (listed sync (t .end .0) 0 (drop (t .end .0) ws) ≡ others)
     unfolding stepFrom
-    step-found t e = subst (λ (x : Step). (x .entry ≡ c) × (listed sync (x .end) 0 (drop (x .end) ws) ≡ others)) (sym e)
+    step-found t e = subst (λ (x : Step). (x .entry ≡ c) × (listed sync (x .end .0) 0 (drop (x .end .0) ws) ≡ others)) (sym e)
         (by-found (nextFrom sync ws at) refl)
 
   module _ (n : ℕ) (register : List Entry) (k at : ℕ) (f : Filling sync ws n before register k at) where
     pub below : k < n → k < length register
     below h = omega (arith, f .fits, f .long)
 
-    pub entry-filled : k < n → (t : Step) → t ≡ stepFrom sync ws at → Filling sync ws n before (set register k (t .entry)) (k + 1) (t .end)
+    pub entry-filled : k < n → (t : Step) → t ≡ stepFrom sync ws at → Filling sync ws n before (set register k (t .entry)) (k + 1) (t .end .0)
     entry-filled h t e =
         let c : Entry = getD chunks k (entry 0 0) in
         let l : listed sync at 0 (drop at ws) ≡ c ∷ drop (suc k) chunks = f .ahead ∙ drop-cons chunks k (entry 0 0) (omega (arith, f .few)) in

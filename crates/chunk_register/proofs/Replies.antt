@@ -13,14 +13,14 @@ use Rattle.base.proofs.Refused.{spared}
 use Rattle.chunk.specs.declared.Entry.{Entry}
 use Rattle.chunk.specs.Reading.{reading}
 use Rattle.chunk_reading.specs.declared.Survey.{Survey}
-use Rattle.chunk_reading.specs.Counting.{refused, countReply, surveyReply}
+use Rattle.chunk_reading.specs.Counting.{refused, surveyOf, surveyReply}
 use Rattle.chunk_register.specs.Register.{listCauses, listReply, entered, listRoom}
 
 module _ (sync : ℕ) (ws : List ℕ) where
   -- what holds of a refusal, whatever its number, and of the full list holds
   pub refused-or-listed : (register : List Entry) (P : Survey → List Entry → Type 0)
       → ((v : ℕ) → P (refused v) register)
-      → (length (reading sync ws) ≤ length register → P (countReply sync ws) (entered (reading sync ws) register))
+      → (length (reading sync ws) ≤ length register → P (surveyOf sync ws) (entered (reading sync ws) register))
       → P (listReply sync ws (length register)) (listRoom sync ws register)
   unfolding listReply listRoom answer
   refused-or-listed register P none all = by-verdict (eqb number 0) refl
@@ -29,7 +29,7 @@ module _ (sync : ℕ) (ws : List ℕ) where
       number = verdict (listCauses sync ws (length register))
 
       by-verdict : (b : Bool) → eqb number 0 ≡ b
-          → P (cond b (countReply sync ws) (refused number)) (cond b (entered (reading sync ws) register) register)
+          → P (cond b (surveyOf sync ws) (refused number)) (cond b (entered (reading sync ws) register) register)
       by-verdict true e = all (ltb-false _ _ (spared (listCauses sync ws (length register)) refl (eqb-true number 0 e) .1 .0))
       by-verdict false e = none number
 

@@ -7,8 +7,8 @@ use Rattle.chunk_register.specs.declared.finder.Step.{Step}
 
 -- the entry that was found and the place past its chunk; zeros where none was
 unfoldable pub stepTo : Found → Step
-stepTo (Found.Chunk e next) = record { entry = e; end = next .0 }
-stepTo Found.End = record { entry = entry 0 0; end = 0 }
+stepTo (Found.Chunk e next) = record { entry = e; end = next }
+stepTo Found.End = record { entry = entry 0 0; end = record { 0 = 0 } }
 
 -- the next chunk at or after a place
 unfoldable pub stepFrom : ℕ → List ℕ → ℕ → Step

@@ -7,7 +7,7 @@ use Rattle.base.specs.Refusal.{Causes, noRoom, verdict, answer}
 use Rattle.chunk.specs.declared.Entry.{Entry}
 use Rattle.chunk.specs.Reading.{reading}
 use Rattle.chunk_reading.specs.declared.Survey.{Survey}
-use Rattle.chunk_reading.specs.Counting.{surveyCauses, refused, countReply}
+use Rattle.chunk_reading.specs.Counting.{surveyCauses, refused, surveyOf}
 
 -- a register with fewer entries than there are chunks is 3, of a recording that can be read
 abbrev pub listCauses : ℕ → List ℕ → ℕ → Causes
@@ -15,7 +15,7 @@ listCauses sync ws entries = surveyCauses ws ++ (noRoom, ltb entries (length (re
 
 -- the reply for a register of so many entries: the number of chunks and of skipped words; a refusal has zeros
 unfoldable pub listReply : ℕ → List ℕ → ℕ → Survey
-listReply sync ws entries = answer (verdict (listCauses sync ws entries)) refused (countReply sync ws)
+listReply sync ws entries = answer (verdict (listCauses sync ws entries)) refused (surveyOf sync ws)
 
 -- the entries in order at the front of the register; unused entries keep their contents
 abbrev pub entered : List Entry → List Entry → List Entry

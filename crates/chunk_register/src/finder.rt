@@ -13,7 +13,7 @@ ghost use Rattle.chunk_register.specs.Finder.{stepFrom};
 // A chunk's entry, and the place past the chunk.
 pub struct Step {
     pub entry: Entry,
-    pub end: usize,
+    pub end: Words,
 }
 
 // The reply for a register of so many entries. A recording that is too long has no chunks to make room for.
@@ -28,21 +28,21 @@ pub fn look(recording: &[u16], sync: u16, entries: usize) -> Survey
 }
 
 // The next chunk at or after a place; zeros where none is left.
-pub fn step_from(recording: &[u16], sync: u16, at: usize) -> Step
-    ensures { λ r. ⌜ r ≡ stepFrom sync (now (recording .entry)) at ⌝ }
+pub fn step_from(recording: &[u16], sync: u16, at: Words) -> Step
+    ensures { λ r. ⌜ r ≡ stepFrom sync (now (recording .entry)) (at .0) ⌝ }
 {
-    let found = search::next(recording, sync, Words(at));
+    let found = search::next(recording, sync, at);
     let Found::Chunk(entry, next) = found else {
         return Step {
             entry: Entry {
                 position: Words(0),
                 header: 0,
             },
-            end: 0,
+            end: Words(0),
         };
     };
     Step {
         entry: entry,
-        end: next.0,
+        end: next,
     }
 }

@@ -1,6 +1,7 @@
 // The register: the listed chunks of a recording, one entry for each, in memory that the caller lends.
 mod finder;
 
+use base::Words;
 use chunk::Entry;
 use chunk_reading::Survey;
 ghost use mathlib.Core.Path.{_≡_};
@@ -15,7 +16,7 @@ pub fn list(recording: &[u16], sync: u16, register: &mut [Entry]) -> Survey
 {
     let reply = finder::look(recording, sync, register.len());
     let n = reply.chunks;
-    let mut at = 0;
+    let mut at = Words(0);
     let mut k = 0;
     while k < n {
         let step = finder::step_from(recording, sync, at);

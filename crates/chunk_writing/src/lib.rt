@@ -15,8 +15,8 @@ fn is_writable(kind: u16, camera: u16) -> bool
 }
 
 // The reply, for a payload and a room of these many words.
-fn plan(kind: u16, camera: u16, payload: &[u16], lent: usize) -> Written
-    ensures { λ r. ⌜ r ≡ writeReply kind camera (length (now (payload .entry))) lent ⌝ }
+fn plan(kind: u16, camera: u16, payload: &[u16], lent: Words) -> Written
+    ensures { λ r. ⌜ r ≡ writeReply kind camera (length (now (payload .entry))) (lent .0) ⌝ }
 {
     let size = payload.len();
     let length = size + header::HEADER.0;
@@ -26,7 +26,7 @@ fn plan(kind: u16, camera: u16, payload: &[u16], lent: usize) -> Written
         refusal::cause(
             refusal::LENGTH,
             !header::legal_size(kind, Words(size)),
-            refusal::cause(refusal::ROOM, lent < length, 0),
+            refusal::cause(refusal::ROOM, lent.0 < length, 0),
         ),
     );
     refusal::settle(verdict, Words(length))
@@ -44,7 +44,7 @@ pub fn write_chunk(sync: u16, kind: u16, camera: u16, payload: &[u16], room: &mu
     ensures { λ r. ⌜ r ≡ writeReply kind camera (length (now (payload .entry))) (length (now (room .entry))) ⌝ }
     ensures { λ _. ⌜ now (room .exit) ≡ writeRoom sync kind camera (now (payload .entry)) (now (room .entry)) ⌝ }
 {
-    let reply = plan(kind, camera, payload, room.len());
+    let reply = plan(kind, camera, payload, Words(room.len()));
     if reply.refusal != 0 {
         return reply;
     }

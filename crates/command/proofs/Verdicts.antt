@@ -1,14 +1,16 @@
--- What a verdict of 0 says of the causes that stand first, and so of the total.
+-- What a verdict of 0 says of the causes that stand first, and so of the total; and the judgement on the causes that stand last.
 use mathlib.Core.Path.{_≡_, refl, ap, _∙_}
 use mathlib.Core.Bool.{Bool, true, false, cond, not, _&&_, and-eq-true-iff}
-use mathlib.Core.List.{[], _∷_, _++_}
+use mathlib.Core.List.{List, [], _∷_, _++_}
 use Prim.Native.Nat.{ℕ, _≤_}
 use native.Mathlib.Omega.{arith}
 use lib.Dec.{leb, eqb}
 use borrow.Author.Tests.{leb-true, not-false}
 use Rattle.base.specs.Refusal.{Causes, verdict, wrongArgument, wrongLength}
 use Rattle.base.proofs.Refused.{spared}
-use Rattle.command.specs.Asking.{mostBytes, firstCauses}
+use Rattle.command_catalogue.specs.Rules.{askedWrong, judgeCauses}
+use Rattle.command.specs.declared.Fields.{Fields}
+use Rattle.command.specs.Asking.{mostBytes, firstCauses, lastCauses}
 
 pub verdict-front : (cs ds : Causes) → verdict (cs ++ ds) ≡ 0 → verdict cs ≡ 0
 verdict-front [] ds e = refl
@@ -21,8 +23,11 @@ pub first-by-causes : (a : Bool) (c n : ℕ) {m v w : ℕ} → m ≡ mostBytes c
     → v ≡ verdict (firstCauses a c n)
 first-by-causes a c n em ew ev = ev ∙ ap (cond a wrongArgument) (ew ∙ ap (λ (x : ℕ). cond (not (leb 14 n && leb n x)) wrongLength 0) em)
 
--- the length of what is not refused at first
+-- what is not refused at first: the argument is right, and the total is within its bounds
 module _ (a : Bool) (c n : ℕ) (h : verdict (firstCauses a c n) ≡ 0) where
+  pub argument-right : a ≡ false
+  argument-right = spared (firstCauses a c n) refl h .0
+
   total-between : leb 14 n && leb n (mostBytes c) ≡ true
   total-between = not-false _ (spared (firstCauses a c n) refl h .1 .0)
 
@@ -34,3 +39,10 @@ module _ (a : Bool) (c n : ℕ) (h : verdict (firstCauses a c n) ≡ 0) where
       most : (b : Bool) → cond b 227 62 ≤ 227
       most true = omega arith
       most false = omega arith
+
+-- ---- the causes that stand last
+
+-- where catalogue and mode are right, the judgement is on the fields and the further bytes
+pub judged-last : (c m : ℕ) (f : Fields) (xs : List ℕ) → askedWrong c m ≡ false
+    → verdict (judgeCauses c m (f .«command_type») (f .qualifier) (f .address) (f .«data») xs) ≡ verdict (lastCauses c m f xs)
+judged-last c m f xs h = ap (λ (b : Bool). cond b wrongArgument (verdict (lastCauses c m f xs))) h

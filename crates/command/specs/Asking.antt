@@ -1,17 +1,13 @@
 -- FORMAT, "Commands": what the reader and the writer refuse alike, before all else and last.
 use Prim.Native.Nat.{ℕ}
-use mathlib.Core.Bool.{Bool, cond, not, _&&_, _||_}
+use mathlib.Core.Bool.{Bool, cond, not, _&&_}
 use mathlib.Core.List.{List, [], _∷_}
 use lib.Dec.{leb, eqb}
 use Rattle.base.specs.Refusal.{Causes, wrongArgument, wrongLength}
-use Rattle.command_catalogue.specs.Table.{dcixs, c1xs, operating}
+use Rattle.command_catalogue.specs.Table.{dcixs}
 use Rattle.command_catalogue.specs.Rules.{fieldCauses}
 use Rattle.command.specs.declared.Fields.{Fields}
 use Rattle.command.specs.Layout.{leastBytes}
-
--- catalogue 1 or 2, mode 0, 1 or 2
-abbrev pub askedWrong : ℕ → ℕ → Bool
-askedWrong catalogue mode = not ((eqb catalogue dcixs || eqb catalogue c1xs) && leb mode operating)
 
 -- a total outside 14 to 227, or 14 to 62 in catalogue 2
 abbrev pub mostBytes : ℕ → ℕ

@@ -9,10 +9,10 @@ use lib.Dec.{eqb}
 use lib.ListN.{length, getD, drop, drop-of-length-le}
 use lib.Seq.{drop-cons}
 use borrow.Author.Tests.{eq-eqb, ne-eqb}
-use Rattle.base.specs.Refusal.{verdict, wrongType, wrongField, wrongFurther, wrongMode}
+use Rattle.base.specs.Refusal.{verdict, wrongArgument, wrongType, wrongField, wrongFurther, wrongMode}
 use Rattle.command_catalogue.specs.declared.table.Permits.{Permits}
 use Rattle.command_catalogue.specs.Table.{some, permits}
-use Rattle.command_catalogue.specs.Rules.{patchLengths, zeros, fieldsWrong, furtherWrong, causesOf, fieldCauses}
+use Rattle.command_catalogue.specs.Rules.{askedWrong, patchLengths, zeros, fieldsWrong, furtherWrong, causesOf, judgeCauses}
 
 pub patch-lengths : (c n : ℕ)
     → cond (eqb c 1) (eqb n 8 || eqb n 16 || eqb n 32 || eqb n 64 || eqb n 128 || eqb n 196) (eqb n 8 || eqb n 16 || eqb n 32 || eqb n 38)
@@ -43,8 +43,9 @@ module _ (bs : List ℕ) (i : ℕ) {z : Bool} (inv : zeros (drop i bs) ≡ z) wh
 pub cause-by-parts : {a b : Bool} {v w : ℕ} (n : ℕ) → a ≡ b → v ≡ w → cond a n v ≡ cond b n w
 cause-by-parts n p q = cc
 
-pub verdict-by-parts : (c m k q a d : ℕ) (xs : List ℕ) {p : Permits} {fw ww : Bool} {v₁ v₂ v₃ v : ℕ} → p ≡ permits c m k q → fw ≡ fieldsWrong p k a d (length xs)
+pub verdict-by-parts : (c m k q a d : ℕ) (xs : List ℕ) {p : Permits} {fw ww aw : Bool} {v₁ v₂ v₃ v₄ v : ℕ} → p ≡ permits c m k q → fw ≡ fieldsWrong p k a d (length xs)
     → ww ≡ furtherWrong c k d xs → v₁ ≡ cond (not (p .mode)) wrongMode 0 → v₂ ≡ cond ww wrongFurther v₁ → v₃ ≡ cond fw wrongField v₂
-    → v ≡ cond (not (p .«command_type»)) wrongType v₃ → v ≡ verdict (fieldCauses c m k q a d xs)
-verdict-by-parts c m k q a d xs {p} ep ef ew e₁ e₂ e₃ e =
-    e ∙ ap (cond (not (p .«command_type»)) wrongType) (e₃ ∙ cause-by-parts wrongField ef (e₂ ∙ cause-by-parts wrongFurther ew e₁)) ∙ ap (λ (r : Permits). verdict (causesOf r c k a d xs)) ep
+    → v₄ ≡ cond (not (p .«command_type»)) wrongType v₃ → aw ≡ askedWrong c m → v ≡ cond aw wrongArgument v₄ → v ≡ verdict (judgeCauses c m k q a d xs)
+verdict-by-parts c m k q a d xs {p} ep ef ew e₁ e₂ e₃ e₄ ea e =
+    e ∙ cause-by-parts wrongArgument ea
+    (e₄ ∙ ap (cond (not (p .«command_type»)) wrongType) (e₃ ∙ cause-by-parts wrongField ef (e₂ ∙ cause-by-parts wrongFurther ew e₁)) ∙ ap (λ (r : Permits). verdict (causesOf r c k a d xs)) ep)

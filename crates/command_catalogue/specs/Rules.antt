@@ -1,12 +1,16 @@
--- FORMAT, "Commands": which fields and further bytes a command may have. Reader and writer go by these alike.
+-- FORMAT, "Commands": which catalogues and modes there are, and which fields and further bytes a command may have. Reader and writer go by these alike.
 use Prim.Native.Nat.{ℕ}
 use mathlib.Core.Bool.{Bool, true, cond, not, _&&_, _||_}
 use mathlib.Core.List.{List, [], _∷_}
 use lib.ListN.{length, drop}
 use lib.Dec.{leb, eqb}
-use Rattle.base.specs.Refusal.{Causes, wrongType, wrongField, wrongFurther, wrongMode}
+use Rattle.base.specs.Refusal.{Causes, wrongArgument, wrongType, wrongField, wrongFurther, wrongMode}
 use Rattle.command_catalogue.specs.declared.table.Permits.{Permits}
-use Rattle.command_catalogue.specs.Table.{dcixs, patch, some, permits}
+use Rattle.command_catalogue.specs.Table.{dcixs, c1xs, operating, patch, some, permits}
+
+-- A catalogue or a mode is asked for that is none: there are the catalogues 1 and 2, and the modes 0, 1 and 2.
+abbrev pub askedWrong : ℕ → ℕ → Bool
+askedWrong catalogue mode = not ((eqb catalogue dcixs || eqb catalogue c1xs) && leb mode operating)
 
 -- PATCH has so many further bytes
 abbrev pub patchLengths : ℕ → List ℕ
@@ -35,3 +39,8 @@ causesOf p catalogue t address data' xs =
 -- the causes that lie in the fields and the further bytes xs
 abbrev pub fieldCauses : ℕ → ℕ → ℕ → ℕ → ℕ → ℕ → List ℕ → Causes
 fieldCauses catalogue mode t qualifier address data' xs = causesOf (permits catalogue mode t qualifier) catalogue t address data' xs
+
+-- The judgement: an argument outside its list, then what lies in the command.
+abbrev pub judgeCauses : ℕ → ℕ → ℕ → ℕ → ℕ → ℕ → List ℕ → Causes
+judgeCauses catalogue mode t qualifier address data' xs =
+    (wrongArgument, askedWrong catalogue mode) ∷ fieldCauses catalogue mode t qualifier address data' xs

@@ -4,6 +4,7 @@ mod table;
 use crate::table::Permits;
 use crate::table::look_up;
 use base::number::either;
+use base::refusal::ARGUMENT;
 use base::refusal::COMMAND_FIELD;
 use base::refusal::COMMAND_TYPE;
 use base::refusal::FURTHER_DATA;
@@ -14,14 +15,13 @@ ghost use lib.Dec.{eqb};
 ghost use lib.ListN.{drop};
 ghost use Rattle.base.specs.Refusal.{verdict};
 ghost use Rattle.command_catalogue.specs.Table.{some};
-ghost use Rattle.command_catalogue.specs.Rules.{patchLengths, zeros, fieldsWrong, furtherWrong, fieldCauses};
+ghost use Rattle.command_catalogue.specs.Rules.{askedWrong, patchLengths, zeros, fieldsWrong, furtherWrong, judgeCauses};
 
-// Catalogue 1 is D-CIXS, 2 is C1XS.
+// The catalogues and the modes, as the calls take them: catalogue 1 is D-CIXS, 2 is C1XS.
 pub const DCIXS: u8 = 1;
 
 pub const C1XS: u8 = 2;
 
-// The modes.
 pub const EMERGENCY: u8 = 0;
 
 pub const STANDBY: u8 = 1;
@@ -30,6 +30,13 @@ pub const OPERATING: u8 = 2;
 
 // The one type that has further data.
 const PATCH: u8 = 2;
+
+// Whether a catalogue or a mode is asked for that is none.
+pub fn asked_wrong(catalogue: u8, mode: u8) -> bool
+    ensures { λ r. ⌜ r ≡ askedWrong catalogue mode ⌝ }
+{
+    !(((catalogue == DCIXS) | (catalogue == C1XS)) & (mode <= OPERATING))
+}
 
 fn patch_length(catalogue: u8, n: usize) -> bool
     ensures { λ r. ⌜ r ≡ some (eqb n) (patchLengths catalogue) ⌝ }
@@ -74,7 +81,7 @@ fn further_wrong(catalogue: u8, command_type: u8, data: u16, further: &[u8]) -> 
     !(n == 0)
 }
 
-// The verdict on a command's type, qualifier, address, data and further bytes.
+// The verdict on a command's type, qualifier, address, data and further bytes, in a catalogue and a mode.
 pub fn judge(
     catalogue: u8,
     mode: u8,
@@ -84,12 +91,13 @@ pub fn judge(
     data: u16,
     further: &[u8],
 ) -> u8
-    ensures { λ r. ⌜ r ≡ verdict (fieldCauses catalogue mode «command_type» qualifier address «data» (now (further .entry))) ⌝ }
+    ensures { λ r. ⌜ r ≡ verdict (judgeCauses catalogue mode «command_type» qualifier address «data» (now (further .entry))) ⌝ }
 {
     let row = look_up(catalogue, mode, command_type, qualifier);
     let field = fields_wrong(row, command_type, address, data, further.len());
     let more = further_wrong(catalogue, command_type, data, further);
     let last = cause(MODE, !row.mode, 0);
     let others = cause(COMMAND_FIELD, field, cause(FURTHER_DATA, more, last));
-    cause(COMMAND_TYPE, !row.command_type, others)
+    let command = cause(COMMAND_TYPE, !row.command_type, others);
+    cause(ARGUMENT, asked_wrong(catalogue, mode), command)
 }

@@ -1,7 +1,7 @@
 -- A command as the layout has it, read: the header and the CRC are right, the fields and the further bytes are those laid out. So the reader
--- judges it as the writer judges the fields.
+-- judges it as the writer judges the fields, and gives back what was written.
 use mathlib.Core.Path.{_≡_, refl, sym, ap, ap₂, _∙_}
-use mathlib.Core.Bool.{Bool, true, false, not, _&&_, _||_, or-false, or-true, true≢false}
+use mathlib.Core.Bool.{Bool, true, false, cond, not, _&&_, _||_, or-false, or-true, true≢false}
 use mathlib.Core.List.{List, [], _∷_, _++_}
 use Prim.Native.Nat.{ℕ, _+_, _-_, _*_, _/_, _%_, _<_, _≤_}
 use native.Mathlib.Nat.{add-zero}
@@ -9,19 +9,23 @@ use native.Mathlib.Omega.{arith}
 use lib.Dec.{eqb, ltb}
 use lib.ListN.{length, getD, take, drop, length-append}
 use lib.Seq.{take-at, getD-append-add}
-use borrow.Author.Tests.{eq-eqb, ne-eqb, lt-ltb, ltb-true, ltb-false}
-use Rattle.base.specs.Refusal.{Causes, verdict, wrongHeader, wrongCrc, noRoom}
-use Rattle.base.proofs.Refused.{spared, answer-yes}
+use borrow.Author.Tests.{eq-eqb, ne-eqb, eqb-true, eqb-false, lt-ltb, le-ltb, ltb-true, ltb-false}
+use Rattle.base.specs.Refusal.{Causes, verdict, answer, wrongArgument, wrongHeader, wrongCrc, noRoom}
+use Rattle.base.proofs.Refused.{numbered, spared, verdict-kept, verdict-further, answer-no, answer-yes}
 use Rattle.crc.specs.Crc.{crcStart, crcBytes}
 use Rattle.command.specs.declared.Fields.{Fields}
 use Rattle.command.specs.Layout.{widths, headOf, laid, readOff, word, bytesOf, numberAt, bodyBytes, commandBytes, fieldsIn, furtherIn}
-use Rattle.command.specs.Asking.{askedWrong, firstCauses, lastCauses}
+use Rattle.command_catalogue.specs.Rules.{askedWrong}
+use Rattle.command.specs.Asking.{firstCauses, lastCauses}
 use Rattle.command.proofs.Verdicts.{verdict-front}
 use Rattle.command_reading.specs.Reading.{headerWrong, crcWrong, readCauses, command, given, readReply, furtherReply}
-use Rattle.command_writing.specs.Writing.{countWrong, askCauses, writeReply, writeRoom}
-use Rattle.command_writing.proofs.Replies.{reply-number, command-fits, stored}
+use Rattle.command_writing.specs.Writing.{countWrong, askCauses, settled, writeReply}
+use Rattle.command_reading.proofs.Replies as reading
+use Rattle.command_writing.specs.declared.Sent.{Sent}
+use Rattle.command_writing.proofs.Replies as writing
+use Rattle.command_writing.proofs.Replies.{command-fits, stored}
 use Rattle.base_room.proofs.RoomLaws.{put-fits}
-use Rattle.command_laws.specs.Agree.{AcceptedAlike, JudgedAlike, GivenBack}
+use Rattle.command_laws.specs.Agree.{written, AcceptedAlike, JudgedAlike, GivenBack}
 use Rattle.command_laws.proofs.Laid.{word-of-bytes}
 
 -- the CRC of any body with its CRC behind it
@@ -112,7 +116,7 @@ module _ (c m : ℕ) (f : Fields) (xs : List ℕ) where
     count-fits : countWrong f ≡ false
     count-fits = ap not (lt-ltb (f .sequence) 16384 h)
 
-    same-verdict : verdict (readCauses c m (commandBytes f xs)) ≡ verdict (askCauses c m f xs)
+    pub same-verdict : verdict (readCauses c m (commandBytes f xs)) ≡ verdict (askCauses c m f xs)
     same-verdict =
         laid-out-causes
         ∙ ap (λ (g : Fields). seen c m (14 + length xs) (countWrong f) false g xs) (fields-read-off f xs h)
@@ -120,44 +124,64 @@ module _ (c m : ℕ) (f : Fields) (xs : List ℕ) where
         ∙ ap (λ (b : Bool). verdict (firstCauses b c (14 + length xs) ++ lastCauses c m f xs))
         (sym (or-false (askedWrong c m)) ∙ ap (λ (b : Bool). askedWrong c m || b) (sym count-fits))
 
-  -- it does not: neither accepts
-  module _ (h : countWrong f ≡ true) where
-    ask-refused : verdict (askCauses c m f xs) ≡ 0 → ⊥
-    ask-refused z =
-        true≢false (sym (or-true (askedWrong c m)) ∙ ap (λ (b : Bool). askedWrong c m || b) (sym h) ∙ spared (askCauses c m f xs) refl z .0)
+  -- it does not: the reader refuses the header
+  read-refused : countWrong f ≡ true → verdict (readCauses c m (commandBytes f xs)) ≡ 0 → ⊥
+  read-refused h z =
+      true≢false (sym h ∙ spared (seenCauses c m (14 + length xs) (countWrong f) false (fieldsIn (commandBytes f xs)) xs) refl (sym laid-out-causes ∙ z) .1 .1 .0)
 
-    read-refused : verdict (readCauses c m (commandBytes f xs)) ≡ 0 → ⊥
-    read-refused z = true≢false (sym h ∙ spared (seenCauses c m (14 + length xs) (countWrong f) false (fieldsIn (commandBytes f xs)) xs) refl (sym laid-out-causes ∙ z) .1 .1 .0)
+-- ---- the numbers that the two reply
+
+read-number : (c m : ℕ) (bs : List ℕ) → readReply c m bs .refusal ≡ verdict (readCauses c m bs)
+read-number c m bs = reading.reply-number c m bs refl
+
+-- causes and one more: its number is given where they have none
+verdict-then : (cs : Causes) (n : ℕ) (b : Bool) → numbered cs ≡ true → verdict (cs ++ (n, b) ∷ []) ≡ answer (verdict cs) (λ v. v) (cond b n 0)
+verdict-then cs n b k = by (eqb (verdict cs) 0) refl
+  where
+    by : (t : Bool) → eqb (verdict cs) 0 ≡ t → verdict (cs ++ (n, b) ∷ []) ≡ answer (verdict cs) (λ v. v) (cond b n 0)
+    by true e = let z = eqb-true (verdict cs) 0 e in verdict-further cs ((n, b) ∷ []) k z ∙ sym (answer-yes _ _ _ z)
+    by false e = let h = eqb-false (verdict cs) 0 e in verdict-kept cs ((n, b) ∷ []) h ∙ sym (answer-no _ _ _ h)
+
+module _ (c m : ℕ) (f : Fields) (xs room : List ℕ) where
+  write-number : writeReply c m f xs (length room) .refusal ≡ answer (verdict (askCauses c m f xs)) (λ v. v) (cond (ltb (length room) (14 + length xs)) noRoom 0)
+  write-number = writing.reply-number c m f xs room refl ∙ verdict-then (askCauses c m f xs) noRoom (ltb (length room) (14 + length xs)) refl
+
+  pub writer-accepts : verdict (askCauses c m f xs) ≡ 0 → 14 + length xs ≤ length room → writeReply c m f xs (length room) .refusal ≡ 0
+  writer-accepts z fit = write-number ∙ answer-yes _ _ _ z ∙ ap (λ (b : Bool). cond b noRoom 0) (le-ltb (length room) (14 + length xs) fit)
+
+  count-refused : countWrong f ≡ true → writeReply c m f xs (length room) .refusal ≡ wrongArgument
+  count-refused h =
+      writing.reply-number c m f xs room refl
+      ∙ ap (λ (b : Bool). verdict (firstCauses b c (14 + length xs) ++ lastCauses c m f xs ++ (noRoom, ltb (length room) (14 + length xs)) ∷ []))
+      (ap (λ (b : Bool). askedWrong c m || b) h ∙ or-true (askedWrong c m))
 
 pub judged-alike : JudgedAlike
-judged-alike = same-verdict
-
-pub accepted-alike : AcceptedAlike
-accepted-alike c m f xs = by (ltb (f .sequence) 16384) refl
-  where
-    by : (b : Bool) → ltb (f .sequence) 16384 ≡ b
-        → (verdict (askCauses c m f xs) ≡ 0 → verdict (readCauses c m (commandBytes f xs)) ≡ 0)
-        × (verdict (readCauses c m (commandBytes f xs)) ≡ 0 → verdict (askCauses c m f xs) ≡ 0)
-    by true e = (λ z. judged-alike c m f xs (ltb-true (f .sequence) 16384 e) ∙ z, λ z. sym (judged-alike c m f xs (ltb-true (f .sequence) 16384 e)) ∙ z)
-    by false e = (λ z. absurd (ask-refused c m f xs (ap not e) z), λ z. absurd (read-refused c m f xs (ap not e) z))
+judged-alike c m f xs room = (
+  λ h. count-refused c m f xs room (ap not (le-ltb (f .sequence) 16384 h)),
+  λ h. write-number c m f xs room ∙ ap (λ (v : ℕ). answer v (λ x. x) (cond (ltb (length room) (14 + length xs)) noRoom 0)) (sym (read-number c m (commandBytes f xs) ∙ same-verdict c m f xs h)),
+)
 
 -- ---- the round trip
 
 module _ (c m : ℕ) (f : Fields) (xs room : List ℕ) (z : writeReply c m f xs (length room) .refusal ≡ 0) where
-  accepted : verdict (askCauses c m f xs) ≡ 0
-  accepted = verdict-front (askCauses c m f xs) ((noRoom, ltb (length room) (14 + length xs)) ∷ []) (sym (reply-number c m f xs room refl) ∙ z)
+  asked-rightly : verdict (askCauses c m f xs) ≡ 0
+  asked-rightly = verdict-front (askCauses c m f xs) ((noRoom, ltb (length room) (14 + length xs)) ∷ []) (sym (writing.reply-number c m f xs room refl) ∙ z)
 
   command-fit : (f .sequence < 16384) × (14 + length xs ≤ 227) × (14 + length xs ≤ length room)
   command-fit = command-fits c m f xs room refl z
 
+  length-replied : writeReply c m f xs (length room) .length .0 ≡ 14 + length xs
+  unfolding writeReply settled
+  length-replied = ap (λ (r : Sent). r .length .0) (answer-yes _ _ _ (sym (writing.reply-number c m f xs room refl) ∙ z))
+
   -- what stands in the room
-  room-holds-command : take (14 + length xs) (writeRoom c m f xs room) ≡ commandBytes f xs
-  room-holds-command =
-      ap (take (14 + length xs)) (sym (stored c m f xs room refl z refl) ∙ put-fits (commandBytes f xs) 0 room (omega (arith, command-fit, command-length f xs)))
+  pub written-is-command : written c m f xs room ≡ commandBytes f xs
+  written-is-command =
+      ap₂ take length-replied (sym (stored c m f xs room refl z refl) ∙ put-fits (commandBytes f xs) 0 room (omega (arith, command-fit, command-length f xs)))
       ∙ take-at (commandBytes f xs) (drop (0 + length (commandBytes f xs)) room) (14 + length xs) (command-length f xs)
 
   reader-accepts : verdict (readCauses c m (commandBytes f xs)) ≡ 0
-  reader-accepts = judged-alike c m f xs (command-fit .0) ∙ accepted
+  reader-accepts = same-verdict c m f xs (command-fit .0) ∙ asked-rightly
 
   read-back : readReply c m (commandBytes f xs) ≡ command 0 f (length xs)
   unfolding readReply given
@@ -171,4 +195,11 @@ module _ (c m : ℕ) (f : Fields) (xs room : List ℕ) (z : writeReply c m f xs 
 
 pub given-back : GivenBack
 given-back c m f xs room z =
-    (ap (readReply c m) (room-holds-command c m f xs room z) ∙ read-back c m f xs room z, ap (furtherReply c m) (room-holds-command c m f xs room z) ∙ further-back c m f xs room z)
+    (ap (readReply c m) (written-is-command c m f xs room z) ∙ read-back c m f xs room z, ap (furtherReply c m) (written-is-command c m f xs room z) ∙ further-back c m f xs room z)
+
+pub accepted-alike : AcceptedAlike
+accepted-alike c m f xs room fit = (λ z. read-number c m (commandBytes f xs) ∙ reader-accepts c m f xs room z, λ z. back (ltb (f .sequence) 16384) refl (sym (read-number c m (commandBytes f xs)) ∙ z))
+  where
+    back : (b : Bool) → ltb (f .sequence) 16384 ≡ b → verdict (readCauses c m (commandBytes f xs)) ≡ 0 → writeReply c m f xs (length room) .refusal ≡ 0
+    back true e z = writer-accepts c m f xs room (sym (same-verdict c m f xs (ltb-true (f .sequence) 16384 e)) ∙ z) fit
+    back false e z = absurd (read-refused c m f xs (ap not e) z)

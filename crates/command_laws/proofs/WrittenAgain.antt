@@ -1,27 +1,31 @@
 -- Bytes that the reader accepts are the layout of what it reads off: head, further bytes and CRC, one after the other.
-use mathlib.Core.Path.{_≡_, refl, sym, ap, _∙_}
+use mathlib.Core.Path.{_≡_, refl, sym, ap, ap₂, _∙_}
 use mathlib.Core.Bool.{true, _&&_, and-eq-true-iff}
 use mathlib.Core.List.{List, [], _∷_, _++_}
 use Prim.Native.Nat.{ℕ, _+_, _-_, _/_, _%_, _<_, _≤_}
 use native.Mathlib.Nat.{mod-lt}
 use native.Mathlib.Omega.{arith}
 use lib.Dec.{eqb, lit<}
-use lib.ListN.{length, getD, take, drop, take-append-drop, length-drop, drop-of-length-le}
+use lib.ListN.{length, take, drop, take-append-drop, length-drop, drop-of-length-le}
 use lib.Seq.{drop-drop, take-at, length-take-le}
 use borrow.Author.Tests.{eqb-true, not-false}
 use Rattle.base.specs.Refusal.{verdict}
-use Rattle.base.proofs.Refused.{Spared, spared}
+use Rattle.base.proofs.Refused.{Spared, spared, answer-yes}
 use Rattle.crc.specs.Crc.{crcStart, crcBytes}
 use Rattle.command.specs.Layout.{widths, headOf, laid, readOff, word, bytesOf, numberAt, bodyBytes, commandBytes, field, fieldsIn, furtherIn}
-use Rattle.command.specs.Asking.{askedWrong, firstCauses}
+use Rattle.command_catalogue.specs.Rules.{askedWrong}
+use Rattle.command.specs.Asking.{firstCauses}
 use Rattle.command.proofs.Verdicts.{verdict-front, total-within}
-use Rattle.command_reading.specs.Reading.{packetCauses, readCauses}
-use Rattle.command_writing.specs.Writing.{askCauses}
-use Rattle.command_laws.specs.Agree.{WrittenAlike}
+use Rattle.command.specs.declared.Fields.{Fields}
+use Rattle.command_reading.specs.declared.Command.{Command}
+use Rattle.command_reading.specs.Reading.{packetCauses, readCauses, given, readReply, furtherReply}
+use Rattle.command_reading.proofs.Replies as reading
+use Rattle.command_writing.specs.Writing.{askCauses, writeReply}
+use Rattle.command_laws.specs.Agree.{AreBytes, WrittenAlike}
 use Rattle.command_laws.proofs.Laid.{laid-again}
-use Rattle.command_laws.proofs.ReadBack.{judged-alike}
+use Rattle.command_laws.proofs.ReadBack.{same-verdict, writer-accepts, written-is-command}
 
-module _ (c m : ℕ) (bs : List ℕ) (bytes : (i : ℕ) → getD bs i 0 < 256) (z : verdict (readCauses c m bs) ≡ 0) where
+module _ (c m : ℕ) (bs : List ℕ) (bytes : AreBytes bs) (z : verdict (readCauses c m bs) ≡ 0) where
   total-permitted : (14 ≤ length bs) × (length bs ≤ 227)
   total-permitted = total-within (askedWrong c m) c (length bs) (verdict-front (firstCauses (askedWrong c m) c (length bs)) (packetCauses c m (fieldsIn bs) bs) z)
 
@@ -81,7 +85,27 @@ module _ (c m : ℕ) (bs : List ℕ) (bytes : (i : ℕ) → getD bs i 0 < 256) (
       (crc-laid ∙ ap (bytesOf word) (sym crc-right ∙ ap (crcBytes crcStart) body-laid))
 
   pub asked-again : verdict (askCauses c m (fieldsIn bs) (furtherIn bs)) ≡ 0
-  asked-again = sym (judged-alike c m (fieldsIn bs) (furtherIn bs) (mod-lt (field bs 1) (lit< tt))) ∙ ap (λ (l : List ℕ). verdict (readCauses c m l)) (sym written-again) ∙ z
+  asked-again = sym (same-verdict c m (fieldsIn bs) (furtherIn bs) (mod-lt (field bs 1) (lit< tt))) ∙ ap (λ (l : List ℕ). verdict (readCauses c m l)) (sym written-again) ∙ z
+
+-- what the reader gives
+module _ (c m : ℕ) (bs : List ℕ) (z : verdict (readCauses c m bs) ≡ 0) where
+  fields-given : readReply c m bs .fields ≡ fieldsIn bs
+  unfolding readReply given
+  fields-given = ap (λ (r : Command). r .fields) (answer-yes _ _ _ z)
+
+  further-given : furtherReply c m bs ≡ furtherIn bs
+  unfolding furtherReply
+  further-given = answer-yes _ _ _ z
 
 pub written-alike : WrittenAlike
-written-alike c m bs bytes z = (written-again c m bs bytes z, asked-again c m bs bytes z)
+written-alike c m bs room bytes fit z =
+    let v : verdict (readCauses c m bs) ≡ 0 = sym (reading.reply-number c m bs refl) ∙ z in
+    let f : Fields = readReply c m bs .fields in
+    let xs : List ℕ = furtherReply c m bs in
+    let ef : f ≡ fieldsIn bs = fields-given c m bs v in
+    let ex : xs ≡ furtherIn bs = further-given c m bs v in
+    let total : 14 + length xs ≡ length bs = ap (λ (l : List ℕ). 14 + length l) ex ∙ total-of-further c m bs bytes v in
+    let accepts : writeReply c m f xs (length room) .refusal ≡ 0 =
+    writer-accepts c m f xs room (ap₂ (λ (g : Fields) (l : List ℕ). verdict (askCauses c m g l)) ef ex ∙ asked-again c m bs bytes v) (omega arith)
+    in
+    (accepts, written-is-command c m f xs room accepts ∙ ap₂ commandBytes ef ex ∙ sym (written-again c m bs bytes v))

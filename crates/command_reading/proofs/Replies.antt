@@ -14,8 +14,9 @@ use Rattle.command_catalogue.proofs.Judged.{cause-by-parts}
 use Rattle.command.specs.declared.Fields.{Fields}
 use Rattle.command_reading.specs.declared.Command.{Command}
 use Rattle.command.specs.Layout.{packetId, word, numberAt, fieldsIn}
-use Rattle.command.specs.Asking.{askedWrong, firstCauses, lastCauses}
-use Rattle.command.proofs.Verdicts.{verdict-front, total-within}
+use Rattle.command_catalogue.specs.Rules.{askedWrong, judgeCauses}
+use Rattle.command.specs.Asking.{firstCauses, lastCauses}
+use Rattle.command.proofs.Verdicts.{verdict-front, argument-right, total-within, judged-last}
 use Rattle.command_reading.specs.Reading.{command, refused, headerWrong, crcWrong, packetCauses, readCauses, given, readReply, furtherReply}
 
 -- ---- what stands in a packet
@@ -26,15 +27,15 @@ header-by-fields bs el ei es = cc
 
 -- ---- the verdict on a packet
 
-pub packet-by-causes : (c m : ℕ) (f : Fields) (bs : List ℕ) {k w o s r : ℕ} {h : Bool} → k ≡ crcBytes crcStart (take (length bs - 2) bs)
-    → o ≡ verdict (lastCauses c m f (take (length bs - 2 - 12) (drop 12 bs))) → h ≡ headerWrong bs → w ≡ numberAt word bs (length bs - 2)
+pub packet-by-causes : (c m : ℕ) (f : Fields) (bs : List ℕ) → askedWrong c m ≡ false → {k w o s r : ℕ} {h : Bool} → k ≡ crcBytes crcStart (take (length bs - 2) bs)
+    → o ≡ verdict (judgeCauses c m (f .«command_type») (f .qualifier) (f .address) (f .«data») (take (length bs - 2 - 12) (drop 12 bs))) → h ≡ headerWrong bs → w ≡ numberAt word bs (length bs - 2)
     → s ≡ cond (not (eqb k w)) wrongCrc o → r ≡ cond h wrongHeader s → r ≡ verdict (packetCauses c m f bs)
-packet-by-causes c m f bs {k} {w} {o} {s} {r} {h} ek eo eh ew es er =
+packet-by-causes c m f bs asked {k} {w} {o} {s} {r} {h} ek eo eh ew es er =
     let l : length bs - 2 - 12 ≡ length bs - 14 = omega arith in
     let crc : not (eqb k w) ≡ crcWrong bs =
     ap (λ (x : ℕ). not (eqb x w)) ek ∙ ap (λ (x : ℕ). not (eqb (crcBytes crcStart (take (length bs - 2) bs)) x)) ew
     in
-    er ∙ cause-by-parts wrongHeader eh (es ∙ cause-by-parts wrongCrc crc (eo ∙ ap (λ (n : ℕ). verdict (lastCauses c m f (take n (drop 12 bs)))) l))
+    er ∙ cause-by-parts wrongHeader eh (es ∙ cause-by-parts wrongCrc crc (eo ∙ judged-last c m f (take (length bs - 2 - 12) (drop 12 bs)) asked ∙ ap (λ (n : ℕ). verdict (lastCauses c m f (take n (drop 12 bs)))) l))
 
 -- ---- the replies
 
@@ -62,6 +63,12 @@ module _ (c m : ℕ) (bs : List ℕ) where
     e : v ≡ verdict early
     e = ev ∙ ap (λ (b : Bool). verdict (firstCauses b c (length bs))) ea
 
+    -- what is left where neither the arguments nor the total are refused
+    pub asked-within : v ≡ 0 → (askedWrong c m ≡ false) × (14 ≤ length bs) × (length bs ≤ 227)
+    asked-within z =
+        let within = total-within (askedWrong c m) c (length bs) (sym e ∙ z) in
+        (argument-right (askedWrong c m) c (length bs) (sym e ∙ z), within .0, within .1)
+
     -- refused by the arguments or the total
     pub refused-at-first : (v ≡ 0 → ⊥) → (f : Fields) {r : Command} → r ≡ given v f 0 → r ≡ readReply c m bs
     unfolding readReply
@@ -81,7 +88,7 @@ module _ (c m : ℕ) (bs : List ℕ) where
   -- ---- what the reply's number says, for the further bytes
 
   module _ {r : Command} (e : r ≡ readReply c m bs) where
-    reply-number : r .refusal ≡ verdict (readCauses c m bs)
+    pub reply-number : r .refusal ≡ verdict (readCauses c m bs)
     unfolding readReply
     reply-number = ap (λ (x : Command). x .refusal) e ∙ given-refusal _ _ _
 

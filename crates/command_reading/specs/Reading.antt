@@ -8,7 +8,8 @@ use Rattle.base.specs.Refusal.{Causes, verdict, answer, wrongHeader, wrongCrc}
 use Rattle.crc.specs.Crc.{crcStart, crcBytes}
 use Rattle.command.specs.declared.Fields.{Fields}
 use Rattle.command.specs.Layout.{leastBytes, packetId, sequenceTop, sequenceCounts, lengthField, word, numberAt, field, fieldsIn, furtherIn}
-use Rattle.command.specs.Asking.{askedWrong, firstCauses, lastCauses}
+use Rattle.command_catalogue.specs.Rules.{askedWrong}
+use Rattle.command.specs.Asking.{firstCauses, lastCauses}
 use Rattle.command_reading.specs.declared.Command.{Command}
 
 -- a wrong ID, sequence top bits or length field

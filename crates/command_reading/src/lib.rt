@@ -8,11 +8,14 @@ use command::LEAST;
 use command::SEQUENCE_COUNTS;
 use command::SEQUENCE_TOP;
 use command::word_at;
+use command_catalogue::asked_wrong;
 use command_catalogue::judge;
 ghost use mathlib.Core.Path.{_≡_};
+ghost use mathlib.Core.Bool.{false};
 ghost use Prim.Native.Nat.{_≤_};
 ghost use lib.ListN.{length};
 ghost use Rattle.base.specs.Refusal.{verdict};
+ghost use Rattle.command_catalogue.specs.Rules.{askedWrong};
 ghost use Rattle.command_reading.specs.Reading.{headerWrong, packetCauses, given, readReply, furtherReply};
 
 // The reader's reply: the fields and the number of further bytes.
@@ -23,14 +26,14 @@ pub struct Command {
 }
 
 // The reply where a verdict is found.
-fn give(verdict: u8, fields: Fields, further: usize) -> Command
-    ensures { λ r. ⌜ r ≡ given «verdict» fields further ⌝ }
+fn give(verdict: u8, fields: Fields, further: Bytes) -> Command
+    ensures { λ r. ⌜ r ≡ given «verdict» fields (further .0) ⌝ }
 {
     if verdict == 0 {
         return Command {
             refusal: 0,
             fields,
-            further: Bytes(further),
+            further,
         };
     }
     Command {
@@ -56,11 +59,12 @@ fn header_wrong(bytes: &[u8]) -> bool
         & (size == bytes.len() - 7))
 }
 
-// The verdict on a packet of a permitted length: its header, its CRC, then its fields and further bytes.
+// The verdict on a packet of a permitted length, in a catalogue and a mode that there are: its header, its CRC, then its fields and further bytes.
 fn inspect(catalogue: u8, mode: u8, fields: Fields, bytes: &[u8]) -> u8
-    requires { ⌜ (14 ≤ length (now bytes)) × (length (now bytes) ≤ 227) ⌝ }
+    requires { ⌜ (askedWrong catalogue mode ≡ false) × (14 ≤ length (now bytes)) × (length (now bytes) ≤ 227) ⌝ }
     ensures { λ r. ⌜ r ≡ verdict (packetCauses catalogue mode fields (now (bytes .entry))) ⌝ }
 {
+    let start = HEAD.0;
     let end = bytes.len() - 2;
     let crc = crc::bytes(crc::START, &bytes[..end]);
     let others = judge(
@@ -70,7 +74,7 @@ fn inspect(catalogue: u8, mode: u8, fields: Fields, bytes: &[u8]) -> u8
         fields.qualifier,
         fields.address,
         fields.data,
-        &bytes[HEAD..end],
+        &bytes[start..end],
     );
     refusal::cause(
         refusal::COMMAND_HEADER,
@@ -85,11 +89,12 @@ pub fn read(catalogue: u8, mode: u8, bytes: &[u8]) -> Command
 {
     let fields = command::fields_in(bytes);
     let n = bytes.len();
-    let refused = command::first(command::asked_wrong(catalogue, mode), catalogue, Bytes(n));
+    let refused = command::first(asked_wrong(catalogue, mode), catalogue, Bytes(n));
     if refused != 0 {
-        return give(refused, fields, 0);
+        return give(refused, fields, Bytes(0));
     }
-    give(inspect(catalogue, mode, fields, bytes), fields, n - LEAST)
+    let more = n - LEAST.0;
+    give(inspect(catalogue, mode, fields, bytes), fields, Bytes(more))
 }
 
 // The further bytes of a command, as a part of its bytes; none where `read` refuses, which has the number.
@@ -100,6 +105,7 @@ pub fn further(catalogue: u8, mode: u8, bytes: &[u8]) -> &[u8]
     if reply.refusal != 0 {
         return &bytes[..0];
     }
+    let first = HEAD.0;
     let last = bytes.len() - 2;
-    &bytes[HEAD..last]
+    &bytes[first..last]
 }

@@ -18,8 +18,9 @@ use Rattle.crc.proofs.Laws.{crc-append}
 use Rattle.command.specs.declared.Fields.{Fields}
 use Rattle.command_writing.specs.declared.Sent.{Sent}
 use Rattle.command.specs.Layout.{widths, headOf, laid, word, bytesOf, commandBytes}
-use Rattle.command.specs.Asking.{askedWrong, firstCauses, lastCauses}
-use Rattle.command.proofs.Verdicts.{verdict-front, total-within}
+use Rattle.command_catalogue.specs.Rules.{askedWrong, judgeCauses}
+use Rattle.command.specs.Asking.{firstCauses, lastCauses}
+use Rattle.command.proofs.Verdicts.{verdict-front, argument-right, total-within, judged-last}
 use Rattle.command_writing.specs.Writing.{countWrong, writeCauses, sent, refused, settled, writeReply, writeRoom}
 
 -- a refused reply is the same whatever would have been written
@@ -61,9 +62,12 @@ module _ (c m : ℕ) (f : Fields) (xs : List ℕ) (room : ℕ) where
         let s : verdict (early ++ late) ≡ v = verdict-kept early late (λ z. h (sym first-verdict ∙ z)) ∙ first-verdict in
         reply-by-verdict (verdict-kept (early ++ late) last (λ z. h (sym s ∙ z)) ∙ s) (is ∙ refused-alike v 0 (14 + length xs) h)
 
-    module _ (z : v ≡ 0) {w : ℕ} (ew : w ≡ verdict late) where
+    module _ (z : v ≡ 0) {w : ℕ} (ew : w ≡ verdict (judgeCauses c m (f .«command_type») (f .qualifier) (f .address) (f .«data») xs)) where
+      asked-right : askedWrong c m ≡ false
+      asked-right = or-false (askedWrong c m) (countWrong f) (argument-right (askedWrong c m || countWrong f) c (14 + length xs) (first-verdict ∙ z)) .0
+
       asked : verdict (early ++ late) ≡ w
-      asked = verdict-further early late refl (first-verdict ∙ z) ∙ sym ew
+      asked = verdict-further early late refl (first-verdict ∙ z) ∙ sym (ew ∙ judged-last c m f xs asked-right)
 
       -- refused by the fields or the further bytes
       pub refused-by-fields : (w ≡ 0 → ⊥) → {r : Sent} → r ≡ settled w 0 → r ≡ writeReply c m f xs room

@@ -8,7 +8,8 @@ use Rattle.base.specs.Refusal.{Causes, verdict, answer, noRoom}
 use Rattle.base_room.specs.Room.{put}
 use Rattle.command.specs.declared.Fields.{Fields}
 use Rattle.command.specs.Layout.{leastBytes, sequenceCounts, commandBytes}
-use Rattle.command.specs.Asking.{askedWrong, firstCauses, lastCauses}
+use Rattle.command_catalogue.specs.Rules.{askedWrong}
+use Rattle.command.specs.Asking.{firstCauses, lastCauses}
 use Rattle.command_writing.specs.declared.Sent.{Sent}
 
 -- a sequence count up to 16,383

@@ -8,12 +8,13 @@ use command::ID;
 use command::LEAST;
 use command::SEQUENCE_COUNTS;
 use command::SEQUENCE_TOP;
+use command_catalogue::asked_wrong;
 use command_catalogue::judge;
 ghost use mathlib.Core.Path.{_≡_};
 ghost use Prim.Native.Nat.{_+_, _≤_, _<_};
 ghost use lib.ListN.{length};
 ghost use Rattle.base_room.specs.Room.{put};
-ghost use Rattle.command.specs.Layout.{laid, widths, headOf, commandBytes};
+ghost use Rattle.command.specs.Layout.{leastBytes, sequenceCounts, laid, widths, headOf, commandBytes};
 ghost use Rattle.command_writing.specs.Writing.{settled, writeReply, writeRoom};
 
 // The writer's reply: the bytes written, 0 on a refusal.
@@ -23,14 +24,11 @@ pub struct Sent {
 }
 
 // The reply where a verdict is found.
-fn settle(verdict: u8, length: usize) -> Sent
-    ensures { λ r. ⌜ r ≡ settled «verdict» «length» ⌝ }
+fn settle(verdict: u8, length: Bytes) -> Sent
+    ensures { λ r. ⌜ r ≡ settled «verdict» («length» .0) ⌝ }
 {
     if verdict == 0 {
-        return Sent {
-            refusal: 0,
-            length: Bytes(length),
-        };
+        return Sent { refusal: 0, length };
     }
     Sent {
         refusal: verdict,
@@ -38,15 +36,15 @@ fn settle(verdict: u8, length: usize) -> Sent
     }
 }
 
-fn plan(catalogue: u8, mode: u8, fields: Fields, further: &[u8], room: usize) -> Sent
-    ensures { λ r. ⌜ r ≡ writeReply catalogue mode fields (now (further .entry)) room ⌝ }
+fn plan(catalogue: u8, mode: u8, fields: Fields, further: &[u8], room: Bytes) -> Sent
+    ensures { λ r. ⌜ r ≡ writeReply catalogue mode fields (now (further .entry)) (room .0) ⌝ }
 {
-    let total = LEAST + further.len();
+    let total = LEAST.0 + further.len();
     let count = fields.sequence < SEQUENCE_COUNTS;
-    let asked = command::asked_wrong(catalogue, mode) | !count;
+    let asked = asked_wrong(catalogue, mode) | !count;
     let refused = command::first(asked, catalogue, Bytes(total));
     if refused != 0 {
-        return settle(refused, 0);
+        return settle(refused, Bytes(0));
     }
     let judged = judge(
         catalogue,
@@ -58,18 +56,21 @@ fn plan(catalogue: u8, mode: u8, fields: Fields, further: &[u8], room: usize) ->
         further,
     );
     if judged != 0 {
-        return settle(judged, 0);
+        return settle(judged, Bytes(0));
     }
-    settle(refusal::cause(refusal::ROOM, room < total, 0), total)
+    settle(
+        refusal::cause(refusal::ROOM, room.0 < total, 0),
+        Bytes(total),
+    )
 }
 
 // The head of a command of so many bytes.
-fn head(fields: Fields, total: usize) -> [u8; 12]
-    requires { ⌜ (fields .sequence < 16384) × (14 ≤ total) × (total < 65536) ⌝ }
-    ensures { λ r. ⌜ r ≡ laid widths (headOf total fields) ⌝ }
+fn head(fields: Fields, total: Bytes) -> [u8; 12]
+    requires { ⌜ (fields .sequence < sequenceCounts) × (leastBytes ≤ total .0) × (total .0 < 65536) ⌝ }
+    ensures { λ r. ⌜ r ≡ laid widths (headOf (total .0) fields) ⌝ }
 {
     let sequence = SEQUENCE_TOP * SEQUENCE_COUNTS + fields.sequence;
-    let size = (total - 7) as u16;
+    let size = (total.0 - 7) as u16;
     [
         number::high_byte(ID),
         number::low_byte(ID),
@@ -88,18 +89,18 @@ fn head(fields: Fields, total: usize) -> [u8; 12]
 
 // The bytes of a command that fits. The CRC goes over the head, then on over the further bytes where they stand.
 fn place(fields: Fields, further: &[u8], room: &mut [u8])
-    requires { ⌜ (fields .sequence < 16384) × (14 + length (now further) ≤ 227) × (14 + length (now further) ≤ length (now room)) ⌝ }
+    requires { ⌜ (fields .sequence < sequenceCounts) × (leastBytes + length (now further) ≤ 227) × (leastBytes + length (now further) ≤ length (now room)) ⌝ }
     ensures { λ _. ⌜ now (room .exit) ≡ put (commandBytes fields (now (further .entry))) 0 (now (room .entry)) ⌝ }
 {
     let n = further.len();
-    let front = head(fields, LEAST + n);
+    let front = head(fields, Bytes(LEAST.0 + n));
     let crc = crc::bytes(crc::bytes(crc::START, &front), further);
     let high = number::high_byte(crc);
     let low = number::low_byte(crc);
     let last = [high, low];
     base_room::put_bytes(&front, room, Bytes(0));
-    base_room::put_bytes(further, room, Bytes(HEAD));
-    base_room::put_bytes(&last, room, Bytes(HEAD + n));
+    base_room::put_bytes(further, room, HEAD);
+    base_room::put_bytes(&last, room, Bytes(HEAD.0 + n));
 }
 
 // A command into lent room.
@@ -107,7 +108,7 @@ pub fn write(catalogue: u8, mode: u8, fields: Fields, further: &[u8], room: &mut
     ensures { λ r. ⌜ r ≡ writeReply catalogue mode fields (now (further .entry)) (length (now (room .entry))) ⌝ }
     ensures { λ _. ⌜ now (room .exit) ≡ writeRoom catalogue mode fields (now (further .entry)) (now (room .entry)) ⌝ }
 {
-    let sent = plan(catalogue, mode, fields, further, room.len());
+    let sent = plan(catalogue, mode, fields, further, Bytes(room.len()));
     if sent.refusal != 0 {
         return sent;
     }

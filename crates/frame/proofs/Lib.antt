@@ -1,3 +1,5 @@
 pub mod Joining
 pub mod Chunks
 pub mod Walking
+pub mod Stepping
+pub mod Ahead

@@ -114,7 +114,7 @@ module _ (sync : ℕ) (ws : List ℕ) (s : startsFrame sync ws ≡ true) where
 
     -- nothing more joins
     pub all-walked : eqb (n % 264) 0 && joinsFrame sync (drop end ws) ≡ false
-        → record { chunks = chunks; end = end; length = sum } ≡ reachOf sync ws
+        → record { chunks = chunks; end = record { 0 = end }; length = record { 0 = sum } } ≡ reachOf sync ws
     unfolding listedWords unitsOf dataWords
     all-walked j =
         let z : ahead sync ws n end ≡ [] = joining-stop sync ws end (eqb (n % 264) 0) (rw (getD-drop end ws 1 0, add-one) at j) in
@@ -147,11 +147,11 @@ module _ (sync : ℕ) (ws : List ℕ) (s : startsFrame sync ws ≡ true) where
 
   -- a frame is described by how far it reaches and what stands at its end
   pub described-by-reach : (r : Reach) (cam : ℕ) (b : Bool) → r ≡ reachOf sync ws → cam ≡ frameCamera ws
-      → b ≡ closesFrame sync (take (length ws - r .end) (drop (r .end) ws)) cam → frame 0 cam (r .chunks) b (r .length) ≡ described sync ws
+      → b ≡ closesFrame sync (take (length ws - r .end .0) (drop (r .end .0) ws)) cam → frame 0 cam (r .chunks) b (r .length .0) ≡ described sync ws
   unfolding described
   described-by-reach r cam b e f g =
-      let n : r .end ≡ frameWords sync ws = ap (λ (x : Reach). x .end) e in
+      let n : r .end .0 ≡ frameWords sync ws = ap (λ (x : Reach). x .end .0) e in
       let w : b ≡ complete sync ws =
-      g ∙ ap (λ (x : List ℕ). closesFrame sync x cam) (to-end (r .end) ws ∙ ap (λ (m : ℕ). drop m ws) n)
+      g ∙ ap (λ (x : List ℕ). closesFrame sync x cam) (to-end (r .end .0) ws ∙ ap (λ (m : ℕ). drop m ws) n)
       ∙ ap (λ (x : ℕ). closesFrame sync (drop (frameWords sync ws) ws) x) f ∙ sym complete-at-end in
       rw (e, f, w)

@@ -5,6 +5,7 @@ use mathlib.Core.Bool.{Bool, true, false, _&&_}
 use mathlib.Core.List.{List, [], _∷_}
 use lib.ListN.{length, getD, take, drop}
 use lib.Dec.{leb, eqb}
+use Rattle.base.specs.Size.{unitWidth, packetWidth}
 use Rattle.chunk.specs.declared.Entry.{Entry}
 use Rattle.chunk.specs.Header.{size, camera, kind, span}
 use Rattle.chunk.specs.Reading.{reading, listedWords}
@@ -18,9 +19,9 @@ starts h = eqb (kind h) 0 && leb 1 (camera h)
 abbrev pub continues : ℕ → Bool
 continues h = eqb (kind h) 0 && eqb (camera h) 0
 
--- a chunk whose size is a multiple of 264
+-- a chunk whose size is a multiple of a whole unit's 264 words
 abbrev pub whole : ℕ → Bool
-whole h = eqb (size h % 264) 0
+whole h = eqb (size h % unitWidth) 0
 
 -- Each directly following continuation joins the frame while every chunk so far is a multiple of 264: `end` is where the last of these chunks ends,
 -- `all` says that every one of them is such a multiple.
@@ -51,7 +52,7 @@ frameCamera ws = camera (getD ws 1 0)
 
 -- the packet at the front of these words is sound and of type 3 plus the camera
 abbrev pub observes : List ℕ → ℕ → Bool
-observes ws cam = soundPacket (take 32 ws) && eqb (packetType ws) (3 + cam)
+observes ws cam = soundPacket (take packetWidth ws) && eqb (packetType ws) (3 + cam)
 
 -- the next listed chunk after a frame that ends at `end` follows with no skipped word, is health, and its first packet observes the frame's camera
 unfoldable pub closes : List ℕ → ℕ → ℕ → List Entry → Bool

@@ -23,4 +23,5 @@ closesFrame sync ws cam = confirmed sync ws && eqb (kind (getD ws 1 0)) 1 && obs
 
 -- how far the frame at the front of these words reaches: its chunks, its words and its data words
 abbrev pub reachOf : ℕ → List ℕ → Reach
-reachOf sync ws = record { chunks = length (frameChunks sync ws); end = frameWords sync ws; length = frameLength sync ws }
+reachOf sync ws =
+    record { chunks = length (frameChunks sync ws); end = record { 0 = frameWords sync ws }; length = record { 0 = frameLength sync ws } }

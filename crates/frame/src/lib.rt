@@ -18,7 +18,7 @@ pub struct Frame {
 
 // What comes next in a recording: a frame or a stray continuation, with the place where it stands and the place to go on from, or nothing more.
 pub enum Piece {
-    Whole(Words, Frame, Words),
+    Frame(Words, Frame, Words),
     Stray(Words, Words),
     End,
 }

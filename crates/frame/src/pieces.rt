@@ -13,26 +13,29 @@ ghost use Rattle.frame.specs.Walk.{startsFrame};
 ghost use Rattle.frame.specs.Pieces.{frameThere, nextPiece};
 
 // The frame that starts at a place, and the place where it ends.
-fn frame_there(words: &[u16], sync: u16, at: usize) -> Piece
-    requires { ⌜ startsFrame sync (drop at (now words)) ≡ true ⌝ }
-    ensures { λ r. ⌜ r ≡ frameThere sync (now (words .entry)) at ⌝ }
+fn frame_there(words: &[u16], sync: u16, place: Words) -> Piece
+    requires { ⌜ startsFrame sync (drop (place .0) (now words)) ≡ true ⌝ }
+    ensures { λ r. ⌜ r ≡ frameThere sync (now (words .entry)) (place .0) ⌝ }
 {
+    let at = place.0;
     let from = &words[at..];
     let reach = shape::measure(from, sync);
-    let end = reach.end;
+    let end = reach.end.0;
+    let length = reach.length;
     let camera = header::camera_of(from[1]);
     let frame = Frame {
         refusal: 0,
         camera,
         chunks: reach.chunks,
         complete: shape::closes(&from[end..], sync, camera),
-        length: Words(reach.length),
+        length,
     };
-    Piece::Whole(Words(at), frame, Words(at + end))
+    let past = at + end;
+    Piece::Frame(place, frame, Words(past))
 }
 
-// The next frame or stray from a place on, where no frame is in hand: health chunks are passed. Going on from the place that it gives, a
-// program goes through a whole recording in one pass.
+// The next frame or stray of the reading that begins at a place: health chunks are passed. Going on from the place where it ends, a program goes
+// through a whole recording in one pass.
 pub fn next(words: &[u16], sync: u16, from: Words) -> Piece
     ensures { λ r. ⌜ r ≡ nextPiece sync (now (words .entry)) (from .0) ⌝ }
 {
@@ -41,12 +44,12 @@ pub fn next(words: &[u16], sync: u16, from: Words) -> Piece
         let found = search::next(words, sync, Words(at));
         match found {
             Found::Chunk(entry, next) => {
-                let begins = entry.position.0;
+                let place = entry.position;
                 if header::kind_of(entry.header) == 0 {
                     if crate::starts(entry.header) {
-                        return frame_there(words, sync, begins);
+                        return frame_there(words, sync, place);
                     }
-                    return Piece::Stray(Words(begins), next);
+                    return Piece::Stray(place, next);
                 }
                 at = next.0;
             }

@@ -13,8 +13,8 @@ ghost use Rattle.frame.specs.Walk.{startsFrame, joinsFrame, closesFrame,
 // How far a frame reaches: its chunks, its words and its data words.
 pub struct Reach {
     pub chunks: usize,
-    pub end: usize,
-    pub length: usize,
+    pub end: Words,
+    pub length: Words,
 }
 
 fn confirmed(words: &[u16], sync: u16) -> bool
@@ -52,8 +52,8 @@ pub fn measure(words: &[u16], sync: u16) -> Reach
     }
     Reach {
         chunks,
-        end,
-        length,
+        end: Words(end),
+        length: Words(length),
     }
 }
 

@@ -1,7 +1,7 @@
 -- A frame's chunks stand end to end, by the rule that joins them, and each is confirmed where it stands. So the words of the frame are a row of whole
 -- chunks, which is listed whole when it is read alone.
 use mathlib.Core.Path.{_≡_, refl, sym, ap, ap₂, subst, _∙_}
-use mathlib.Core.Bool.{Bool, true, false, _&&_, false≢true, and-false}
+use mathlib.Core.Bool.{Bool, true, false, _&&_, _||_, false≢true, and-false}
 use mathlib.Core.List.{List, [], _∷_, _++_}
 use mathlib.Core.Logic.{inl, inr}
 use Prim.Native.Nat.{ℕ, zero, suc, _+_, _≤_}
@@ -9,15 +9,16 @@ use native.Mathlib.Omega.{arith}
 use native.Mathlib.Nat.{add-assoc, add-zero, zero-add}
 use lib.ListN.{length, getD, take, drop, length-take, length-drop, take-append-drop}
 use lib.Seq.{take-add, take-append-le, drop-append-le, drop-drop}
-use lib.Dec.{eqb}
-use borrow.Author.Tests.{eq-eqb, ne-eqb, eqb-true}
-use Rattle.base.proofs.Booleans.{and-left, and-right}
+use lib.Dec.{leb, eqb}
+use borrow.Author.Tests.{not-false, eq-eqb, ne-eqb, eqb-true, le-leb, lt-ltb}
+use Rattle.base.proofs.Booleans.{and-left, and-right, or-false}
 use Rattle.chunk.specs.declared.Entry.{Entry}
 use Rattle.chunk.specs.Header.{size, span, legal, headed, confirmed}
 use Rattle.chunk.specs.Reading.{entry, reading, listedWords, leftAt, listedAt}
 use Rattle.chunk.proofs.Headers.{headed-parts, confirmed-within}
 use Rattle.chunk_laws.specs.Stretch.{Laid, words, entries, whole as wholeChunk, wholeRow}
-use Rattle.chunk_laws.specs.Resync.{_∈_}
+use Rattle.chunk_laws.specs.Outside.{within, covered}
+use Rattle.chunk_laws.specs.Listed.{Among}
 use Rattle.chunk_laws.proofs.Tests.{and-both}
 use Rattle.chunk_laws.proofs.ByPlace.{listed-place}
 use Rattle.chunk_laws.proofs.Rows.{lists-row}
@@ -29,14 +30,14 @@ use Rattle.frame.specs.Pieces.{framesAndStrays}
 use Rattle.frame.proofs.Joining.{joining-one, listedFrom}
 use Rattle.frame.proofs.Chunks.{payload-length}
 use Rattle.frame.proofs.Walking.{first-and-ahead, frame-ends-inside}
-use Rattle.frame_laws.specs.Local.{EndToEnd, Local, NoneEnds, StrayAfterGap}
-use Rattle.frame_laws.proofs.Pieces.{pick, pieces-one}
+use Rattle.frame.proofs.Stepping.{pick, pieces-one}
+use Rattle.frame_laws.specs.Local.{EndToEnd, Local, FramesLocal, StrayAfterGap}
 
 -- ---- the chunks that join
 
 record Joined (end : ℕ) (all : Bool) (es js : List Entry) : Type 0 where
   endToEnd : EndToEnd end js
-  among : (f : Entry) → f ∈ js → f ∈ es
+  among : (f : Entry) → Among f js → Among f es
   again : joining end all js ≡ js
 
 joined : (end : ℕ) (all : Bool) (es : List Entry) → Joined end all es (joining end all es)
@@ -54,7 +55,7 @@ joined end all (e ∷ es) =
         let js : List Entry = joining (end + span (e .header)) (whole (e .header)) es in
         subst (Joined end all (e ∷ es)) (sym (joining-one end all e es true j)) (record {
           endToEnd = (eqb-true (e .position .0) end (and-right all _ (and-left (all && eqb (e .position .0) end) _ j)), more .endToEnd);
-          among = λ f h. elim h as (λ x. f ∈ e ∷ es) [ inl z ↦ inl z | inr z ↦ inr (more .among f z) ];
+          among = λ f h. elim h as (λ x. Among f (e ∷ es)) [ inl z ↦ inl z | inr z ↦ inr (more .among f z) ];
           again = joining-one end all e js true j ∙ ap (λ (l : List Entry). e ∷ l) (more .again);
         })
 
@@ -66,19 +67,19 @@ record HeaderAt (sync : ℕ) (ws : List ℕ) (e : Entry) : Type 0 where
   confirms : confirmed sync (drop (e .position .0) ws) ≡ true
 
 module _ (sync : ℕ) (ws : List ℕ) where
-  listed-header-at : (e : Entry) → e ∈ reading sync ws → HeaderAt sync ws e
+  listed-header-at : (e : Entry) → Among e (reading sync ws) → HeaderAt sync ws e
   unfolding listedAt
   listed-header-at e h =
       let t = listed-place sync ws e h in
       record { word = t .1; confirms = and-right (eqb (leftAt sync 0 ws (e .position .0)) 0) _ (t .0) }
 
-  within : (e : Entry) → HeaderAt sync ws e → e .position .0 + span (e .header) ≤ length ws
-  within e s =
+  ends-within : (e : Entry) → HeaderAt sync ws e → e .position .0 + span (e .header) ≤ length ws
+  ends-within e s =
       let n : size (e .header) ≡ size (getD (drop (e .position .0) ws) 1 0) = ap size (s .word) in
       omega (arith, confirmed-within sync (drop (e .position .0) ws) (s .confirms), length-drop (e .position .0) ws)
 
   -- where no chunk is confirmed after the first n, there are no more
-  none-after-gap : (n at : ℕ) (es : List Entry) → EndToEnd at es → ((e : Entry) → e ∈ es → HeaderAt sync ws e)
+  none-after-gap : (n at : ℕ) (es : List Entry) → EndToEnd at es → ((e : Entry) → Among e es → HeaderAt sync ws e)
       → confirmed sync (drop (at + listedWords (take n es)) ws) ≡ false → take n es ≡ es
   unfolding listedWords
   none-after-gap zero at [] p s z = refl
@@ -109,18 +110,18 @@ module _ (sync : ℕ) (ws : List ℕ) where
   row-entries at [] p = refl
   row-entries at (e ∷ es) p = ap₂ (λ (n : ℕ) (l : List Entry). entry n (e .header) ∷ l) (sym (p .0)) (row-entries (at + span (e .header)) es (p .1))
 
-  row-whole : (es : List Entry) → ((e : Entry) → e ∈ es → HeaderAt sync ws e) → wholeRow (rowOf es) ≡ true
+  row-whole : (es : List Entry) → ((e : Entry) → Among e es → HeaderAt sync ws e) → wholeRow (rowOf es) ≡ true
   unfolding wholeRow confirmed
   row-whole [] s = refl
   row-whole (e ∷ es) s =
       let h : ℕ = e .header in
       let t : HeaderAt sync ws e = s e (inl refl) in
       let l : legal h ≡ true = rw (t .word) (headed-parts sync (drop (e .position .0) ws) (and-left _ _ (t .confirms)) .2) in
-      let n : length (payloadOf ws e) ≡ size h = payload-length ws (e .position .0) h (within sync ws e t) in
+      let n : length (payloadOf ws e) ≡ size h = payload-length ws (e .position .0) h (ends-within sync ws e t) in
       and-both (wholeChunk (record { header = h; payload = payloadOf ws e })) _ (and-both (legal h) _ l (eq-eqb (length (payloadOf ws e)) (size h) n))
       (row-whole es (λ f i. s f (inr i)))
 
-  row-words : (at : ℕ) (es : List Entry) → EndToEnd at es → ((e : Entry) → e ∈ es → HeaderAt sync ws e)
+  row-words : (at : ℕ) (es : List Entry) → EndToEnd at es → ((e : Entry) → Among e es → HeaderAt sync ws e)
       → take (listedWords es) (drop at ws) ≡ words sync (rowOf es)
   unfolding listedWords
   row-words at [] p s = refl
@@ -156,11 +157,11 @@ units-within n ws l at (e ∷ es) p f =
 
 -- ---- the frame
 
-frame-among : (es : List Entry) (f : Entry) → f ∈ frameOf es → f ∈ es
+frame-among : (es : List Entry) (f : Entry) → Among f (frameOf es) → Among f es
 unfolding frameOf
 frame-among [] f h = h
 frame-among (e ∷ es) f h =
-    elim h as (λ x. f ∈ e ∷ es) [ inl z ↦ inl z | inr z ↦ inr (joined (span (e .header)) (whole (e .header)) es .among f z) ]
+    elim h as (λ x. Among f (e ∷ es)) [ inl z ↦ inl z | inr z ↦ inr (joined (span (e .header)) (whole (e .header)) es .among f z) ]
 
 frame-again : (es : List Entry) → frameOf (frameOf es) ≡ frameOf es
 unfolding frameOf
@@ -180,7 +181,7 @@ module _ (sync : ℕ) (ws : List ℕ) (s : startsFrame sync ws ≡ true) where
       let j = joined (span h) (whole h) (listedFrom sync ws (span h)) in
       subst (EndToEnd 0) (sym (first-and-ahead sync ws s)) (refl, rw (zero-add (span h)) (j .endToEnd))
 
-  frame-header-at : (e : Entry) → e ∈ fs → HeaderAt sync ws e
+  frame-header-at : (e : Entry) → Among e fs → HeaderAt sync ws e
   unfolding frameChunks
   frame-header-at e h = listed-header-at sync ws e (frame-among (reading sync ws) e h)
 
@@ -196,7 +197,7 @@ module _ (sync : ℕ) (ws : List ℕ) (s : startsFrame sync ws ≡ true) where
       ap (unitsOf own) same-chunks
       ∙ units-within (frameWords sync ws) ws (frame-ends-inside sync ws s) 0 fs end-to-end (omega arith)
 
-  pub local : Local sync ws
+  local : Local sync ws
   local = record {
     endToEnd = end-to-end;
     stops = λ n z. none-after-gap sync ws (suc n) 0 fs end-to-end frame-header-at (rw (zero-add (listedWords (take (suc n) fs))) z);
@@ -204,7 +205,33 @@ module _ (sync : ℕ) (ws : List ℕ) (s : startsFrame sync ws ≡ true) where
     sameUnits = same-units;
   }
 
+pub frames-local : FramesLocal
+unfolding listedAt
+frames-local sync ws p f =
+    let h : ℕ = getD (drop p ws) 1 0 in
+    let t : listedAt sync ws p && starts h ≡ true = not-false (listedAt sync ws p && starts h) f in
+    local sync (drop p ws)
+    (and-both (confirmed sync (drop p ws)) (starts h) (and-right (eqb (leftAt sync 0 ws p) 0) _ (and-left (listedAt sync ws p) _ t)) (and-right (listedAt sync ws p) _ t))
+
 -- ---- a continuation after a skipped word
+
+-- none of these chunks ends at the place p
+abbrev NoneEnds : ℕ → List Entry → Type 0
+NoneEnds p [] = Unit {0}
+NoneEnds p (e ∷ es) = (e .position .0 + span (e .header) ≡ p → ⊥) × NoneEnds p es
+
+-- a chunk that ends at p has the word before p
+none-ends : (p : ℕ) (before rest : List Entry) → ((k : ℕ) → p ≡ suc k → covered (before ++ rest) k ≡ false) → NoneEnds p before
+unfolding covered
+none-ends p [] rest g = tt
+none-ends p (f ∷ before) rest g = (
+  λ q.
+      let k : ℕ = f .position .0 + suc (size (f .header)) in
+      let e : p ≡ suc k = omega (arith, q) in
+      let w : within k f ≡ true = and-both (leb (f .position .0) k) _ (le-leb (f .position .0) k (omega arith)) (lt-ltb k (f .position .0 + span (f .header)) (omega arith)) in
+      false≢true (sym (g k e) ∙ ap (λ (b : Bool). b || covered (before ++ rest) k) w),
+  none-ends p before rest (λ k e. or-false (within k f) _ (g k e) .1),
+)
 
 module _ (e : Entry) (after : List Entry) (c : continues (e .header) ≡ true) where
   abbrev Apart : ℕ → Bool → List Entry → Type 0
@@ -236,5 +263,7 @@ module _ (e : Entry) (after : List Entry) (c : continues (e .header) ≡ true) w
               ap (λ (l : List Entry). f ∷ l) (more (f .position .0 + span (f .header)) (whole (f .header)) (elsewhere (whole (f .header)) _ refl))
           picks false y false q = more 0 false refl
 
-pub stray-after-gap : (sync : ℕ) (ws : List ℕ) → StrayAfterGap sync ws
-stray-after-gap sync ws before e after r c n = ap (framesAndStrays 0 false) r ∙ apart e after c 0 false before refl n
+pub stray-after-gap : StrayAfterGap
+stray-after-gap sync ws before e after r c n =
+    ap (framesAndStrays 0 false) r
+    ∙ apart e after c 0 false before refl (none-ends (e .position .0) before (e ∷ after) (λ k q. ap (λ (l : List Entry). covered l k) (sym r) ∙ n k q))

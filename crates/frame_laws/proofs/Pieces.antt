@@ -1,58 +1,33 @@
--- The next frame or stray is the first of the frames and strays of the list: the chunks that join a frame are no strays, and after them none is in hand.
+-- What the next piece says. The chunks that join a frame are no strays, and after them none is in hand; so where a frame ends the frames and strays go on as
+-- those of the reading that begins there.
 use mathlib.Core.Path.{_≡_, refl, sym, ap, subst, _∙_}
 use mathlib.Core.Bool.{Bool, true, false, _&&_, and-true}
 use mathlib.Core.List.{List, [], _∷_}
 use Prim.Native.Nat.{ℕ, zero, suc, _+_, _≤_}
 use native.Mathlib.Omega.{arith}
 use lib.ListN.{length, getD, drop}
-use native.Mathlib.Nat.{add-assoc}
 use native.Mathlib.Numerals.{add-one}
 use lib.Seq.{drop-drop, getD-drop}
-use lib.Dec.{eqb, leb}
-use borrow.Author.Tests.{eq-eqb, ne-eqb, eqb-true, eqb-false, leb-true, leb-false}
+use lib.Dec.{eqb}
+use borrow.Author.Tests.{eqb-true, eqb-false}
 use Rattle.base.proofs.Booleans.{and-left, and-right}
 use Rattle.chunk.specs.declared.Entry.{Entry}
 use Rattle.chunk.specs.declared.Found.{Found}
 use Rattle.chunk.specs.declared.Found.the-variants.{Chunk, End}
-use Rattle.chunk.specs.Header.{size, kind, camera, span}
+use Rattle.chunk.specs.Header.{size, kind, span}
 use Rattle.chunk.specs.Reading.{entry, listed, nextFrom, listedWords}
-use Rattle.chunk.proofs.Steps.{past, Next, stepped, ended, found-end}
+use Rattle.chunk.proofs.Steps.{past, Next, stepped, found-end}
 use Rattle.chunk_laws.specs.Resync.{moved}
 use Rattle.chunk_laws.proofs.ByPlace.{listed-moved}
 use Rattle.frame.specs.declared.Piece.{Piece}
-use Rattle.frame.specs.declared.Piece.the-variants.{Whole, Stray, End as Nothing}
 use Rattle.frame.specs.Shape.{starts, continues, whole, joining, frameWords}
 use Rattle.frame.specs.Walk.{startsFrame}
-use Rattle.frame.specs.Pieces.{framesAndStrays, frameThere, strayThere, nextPiece}
+use Rattle.frame.specs.Pieces.{framesAndStrays, piecesFrom, frameThere, strayThere, nextPiece}
 use Rattle.frame.proofs.Joining.{joining-one, listedFrom, AfterJoined, after-joined}
 use Rattle.frame.proofs.Walking.{ahead, first-and-ahead}
-use Rattle.frame.proofs.pieces.Stepping.{no-piece, health-passed, frame-next, stray-next, frame-starts}
-use Rattle.frame_laws.specs.Pieces.{piecesFrom, Says}
-
--- one listed chunk: whether it continues a frame, whether it joins the one in hand, whether it starts one
-module _ (end : ℕ) (all : Bool) (e : Entry) (es : List Entry) where
-  abbrev pub pick : Bool → Bool → Bool → List Entry
-  pick c j s =
-      elim c as (λ x. List Entry) [
-        | true ↦
-            elim j as (λ x. List Entry) [
-              | true ↦ framesAndStrays (end + span (e .header)) (whole (e .header)) es
-              | false ↦ e ∷ framesAndStrays 0 false es
-            ]
-        | false ↦
-            elim s as (λ x. List Entry) [
-              | true ↦ e ∷ framesAndStrays (e .position .0 + span (e .header)) (whole (e .header)) es
-              | false ↦ framesAndStrays 0 false es
-            ]
-      ]
-
-  pub pieces-one : (c j s : Bool) → continues (e .header) ≡ c → all && eqb (e .position .0) end ≡ j → starts (e .header) ≡ s
-      → framesAndStrays end all (e ∷ es) ≡ pick c j s
-  unfolding framesAndStrays
-  pieces-one c j s x y z =
-      ap (λ (b : Bool). pick b (all && eqb (e .position .0) end) (starts (e .header))) x
-      ∙ ap (λ (b : Bool). pick c b (starts (e .header))) y
-      ∙ ap (pick c j) z
+use Rattle.frame.proofs.Stepping.{pieces-one, continuation, none-left, no-piece, pieces-past-health, health-passed, pieces-at-frame, frame-next, pieces-at-stray, stray-next, frame-starts}
+use Rattle.frame_laws.specs.Pieces.{Says, PiecesSaid}
+use Rattle.frame_laws.proofs.Moved.{joining-moved, words-moved}
 
 -- a chunk that joins no frame in hand is as it is where none is in hand
 alone : (end : ℕ) (all : Bool) (e : Entry) (es : List Entry) → all && eqb (e .position .0) end && continues (e .header) ≡ false
@@ -86,38 +61,6 @@ passed end all (e ∷ es) = by-join (all && eqb (e .position .0) end && continue
         alone end all e es j
         ∙ ap (λ (js : List Entry). framesAndStrays 0 false (drop (length js) (e ∷ es))) (sym (joining-one end all e es false j))
 
--- ---- positions counted from another place
-
-joining-moved : (n end : ℕ) (all : Bool) (es : List Entry) → joining (n + end) all (moved n es) ≡ moved n (joining end all es)
-unfolding joining
-joining-moved n end all [] = refl
-joining-moved n end all (e ∷ es) = by-join (all && eqb (e .position .0) end && continues (e .header)) refl (λ a. joining-moved n (end + span (e .header)) a es)
-  where
-    shifted : eqb (n + e .position .0) (n + end) ≡ eqb (e .position .0) end
-    shifted = by-place (eqb (e .position .0) end) refl
-      where
-        by-place : (b : Bool) → eqb (e .position .0) end ≡ b → eqb (n + e .position .0) (n + end) ≡ b
-        by-place true q = eq-eqb (n + e .position .0) (n + end) (ap (λ (m : ℕ). n + m) (eqb-true (e .position .0) end q))
-        by-place false q = ne-eqb (n + e .position .0) (n + end) (λ z. eqb-false (e .position .0) end q (omega arith))
-
-    by-join : (b : Bool) → all && eqb (e .position .0) end && continues (e .header) ≡ b
-        → ((a : Bool) → joining (n + (end + span (e .header))) a (moved n es) ≡ moved n (joining (end + span (e .header)) a es))
-        → joining (n + end) all (moved n (e ∷ es)) ≡ moved n (joining end all (e ∷ es))
-    by-join true j more =
-        let f : Entry = entry (n + e .position .0) (e .header) in
-        joining-one (n + end) all f (moved n es) true (ap (λ (b : Bool). all && b && continues (e .header)) shifted ∙ j)
-        ∙ ap (λ (m : ℕ). f ∷ joining m (whole (e .header)) (moved n es)) (add-assoc n end (span (e .header)))
-        ∙ ap (λ (l : List Entry). f ∷ l) (more (whole (e .header)))
-        ∙ ap (moved n) (sym (joining-one end all e es true j))
-    by-join false j more =
-        joining-one (n + end) all (entry (n + e .position .0) (e .header)) (moved n es) false (ap (λ (b : Bool). all && b && continues (e .header)) shifted ∙ j)
-        ∙ ap (moved n) (sym (joining-one end all e es false j))
-
-words-moved : (n : ℕ) (es : List Entry) → listedWords (moved n es) ≡ listedWords es
-unfolding listedWords
-words-moved n [] = refl
-words-moved n (e ∷ es) = ap (λ (m : ℕ). span (e .header) + m) (words-moved n es)
-
 -- ---- the next piece
 
 module _ (sync : ℕ) (ws : List ℕ) where
@@ -137,56 +80,56 @@ module _ (sync : ℕ) (ws : List ℕ) where
       ∙ words-moved p (ahead sync v (size h) (span h)) in
       omega (arith, ap listedWords (first-and-ahead sync v s), w)
 
+  -- from p on and from q on they are the same, so a piece says the same of them
   moves : (p q : ℕ) → piecesFrom sync ws p ≡ piecesFrom sync ws q → (x : Piece) → Says sync ws q x → Says sync ws p x
-  moves p q e (Whole a f r) s = e ∙ s
-  moves p q e (Stray a r) s = e ∙ s
-  moves p q e Nothing s = e ∙ s
+  moves p q e x s = record { none = λ z. e ∙ s .none z; first = λ z. e ∙ s .first z; isFrame = s .isFrame; isStray = s .isStray }
 
   module _ (p : ℕ) (e : Entry) (n : Next sync ws p e (past e)) where
     abbrev at : ℕ
     at = e .position .0
 
+    abbrev h : ℕ
+    h = e .header
+
     named : e ≡ entry at (getD ws (suc at) 0)
     named = ap (entry at) (n .word)
 
-    -- the list from p on begins with the chunk that was found
-    begins : (c s : Bool) → continues (e .header) ≡ c → starts (e .header) ≡ s
-        → piecesFrom sync ws p ≡ pick 0 false e (listedFrom sync ws (past e)) c false s
-    begins c s x y =
-        ap (framesAndStrays 0 false) (n .lists) ∙ pieces-one 0 false e (listedFrom sync ws (past e)) c false s x refl y
+    at-stray : kind h ≡ 0 → starts h ≡ false → Says sync ws p (strayThere e)
+    at-stray k s = record {
+      none = λ z. absurd (omega arith);
+      first = λ z. pieces-at-stray sync ws p e (past e) n k s ∙ ap (λ (f : Entry). f ∷ piecesFrom sync ws (past e)) named;
+      isFrame = λ z. absurd (omega arith);
+      isStray = λ z. ap (λ (w : ℕ). continues w) (sym (n .word)) ∙ continuation h k s;
+    }
 
-    at-health : eqb (kind (e .header)) 0 ≡ false → piecesFrom sync ws p ≡ piecesFrom sync ws (past e)
-    at-health k =
-        begins false false (ap (λ (b : Bool). b && eqb (camera (e .header)) 0) k) (ap (λ (b : Bool). b && leb 1 (camera (e .header))) k)
-
-    at-stray : eqb (kind (e .header)) 0 ≡ true → starts (e .header) ≡ false → Says sync ws p (strayThere e)
-    at-stray k s =
-        begins true false (rw k (camera-none (rw k at s))) s ∙ ap (λ (f : Entry). f ∷ piecesFrom sync ws (past e)) named
-      where
-        camera-none : leb 1 (camera (e .header)) ≡ false → eqb (camera (e .header)) 0 ≡ true
-        camera-none z = eq-eqb (camera (e .header)) 0 (omega (arith, leb-false 1 (camera (e .header)) z))
-
-    at-frame : starts (e .header) ≡ true → Says sync ws p (frameThere sync ws at)
-    at-frame s =
-        let h : ℕ = e .header in
+    -- after a frame's chunks none is in hand
+    after-frame : starts h ≡ true → piecesFrom sync ws p ≡ e ∷ piecesFrom sync ws (at + frameWords sync (drop at ws))
+    after-frame s =
         let q : getD (drop at ws) 1 0 ≡ h = getD-drop at ws 1 0 ∙ ap (λ (i : ℕ). getD ws i 0) (add-one at) ∙ sym (n .word) in
         let js : List Entry = joining (past e) (whole h) (listedFrom sync ws (past e)) in
         let r : AfterJoined sync ws (past e) js = after-joined sync ws (length ws) (past e) (whole h) (omega arith) (n .within) in
         let g : at + frameWords sync (drop at ws) ≡ past e + listedWords js =
         rw q at (frame-end at (frame-starts sync ws p e (past e) n s)) in
-        begins false true (no-continuation s) s
+        pieces-at-frame sync ws p e (past e) n s
         ∙ ap (λ (l : List Entry). e ∷ l) (passed (past e) (whole h) (listedFrom sync ws (past e)) ∙ ap (framesAndStrays 0 false) (r .goes-on))
         ∙ ap (λ (m : ℕ). e ∷ piecesFrom sync ws m) (sym g)
-        ∙ ap (λ (f : Entry). f ∷ piecesFrom sync ws (at + frameWords sync (drop at ws))) named
-      where
-        no-continuation : starts (e .header) ≡ true → continues (e .header) ≡ false
-        no-continuation z =
-            let c : 1 ≤ camera (e .header) = leb-true 1 (camera (e .header)) (and-right (eqb (kind (e .header)) 0) _ z) in
-            rw (and-left (eqb (kind (e .header)) 0) _ z) (ne-eqb (camera (e .header)) 0 (λ w. omega arith))
+
+    at-frame : starts h ≡ true → Says sync ws p (frameThere sync ws at)
+    at-frame s = record {
+      none = λ z. absurd (omega arith);
+      first = λ z. after-frame s ∙ ap (λ (f : Entry). f ∷ piecesFrom sync ws (at + frameWords sync (drop at ws))) named;
+      isFrame = λ z. (ap (λ (w : ℕ). starts w) (sym (n .word)) ∙ s, refl);
+      isStray = λ z. absurd (omega arith);
+    }
 
   at-end : (p : ℕ) → nextFrom sync ws p ≡ Found.End → Says sync ws p (nextPiece sync ws p)
   unfolding framesAndStrays
-  at-end p f = subst (Says sync ws p) (sym (no-piece sync ws p f)) (ap (framesAndStrays 0 false) (ended sync ws p f .lists))
+  at-end p f = subst (Says sync ws p) (sym (no-piece sync ws p f)) record {
+    none = λ z. none-left sync ws p f;
+    first = λ z. absurd (z refl);
+    isFrame = λ z. absurd (omega arith);
+    isStray = λ z. absurd (omega arith);
+  }
 
   -- a chunk was found: the piece is there, or the search goes on past a health chunk
   at-chunk : (p : ℕ) (e : Entry) (n : Next sync ws p e (past e)) → Says sync ws (past e) (nextPiece sync ws (past e)) → Says sync ws p (nextPiece sync ws p)
@@ -194,12 +137,13 @@ module _ (sync : ℕ) (ws : List ℕ) where
     where
       by-kind : (k : Bool) → eqb (kind (e .header)) 0 ≡ k → (s : Bool) → starts (e .header) ≡ s → Says sync ws p (nextPiece sync ws p)
       by-kind false k s y =
-          subst (Says sync ws p) (sym (health-passed sync ws p e (past e) n (eqb-false (kind (e .header)) 0 k)))
-          (moves p (past e) (at-health p e n k) (nextPiece sync ws (past e)) more)
-      by-kind true k true y =
-          subst (Says sync ws p) (sym (frame-next sync ws p e (past e) n (eqb-true (kind (e .header)) 0 k) y)) (at-frame p e n y)
+          let z = eqb-false (kind (e .header)) 0 k in
+          subst (Says sync ws p) (sym (health-passed sync ws p e (past e) n z))
+          (moves p (past e) (pieces-past-health sync ws p e (past e) n z) (nextPiece sync ws (past e)) more)
+      by-kind true k true y = subst (Says sync ws p) (sym (frame-next sync ws p e (past e) n y)) (at-frame p e n y)
       by-kind true k false y =
-          subst (Says sync ws p) (sym (stray-next sync ws p e (past e) n (eqb-true (kind (e .header)) 0 k) y)) (at-stray p e n k y)
+          let z = eqb-true (kind (e .header)) 0 k in
+          subst (Says sync ws p) (sym (stray-next sync ws p e (past e) n z y)) (at-stray p e n z y)
 
   by-found : (k p : ℕ) → length ws ≤ p + suc k → ((q : ℕ) → length ws ≤ q + k → Says sync ws q (nextPiece sync ws q))
       → (f : Found) → nextFrom sync ws p ≡ f → Says sync ws p (nextPiece sync ws p)
@@ -212,5 +156,5 @@ module _ (sync : ℕ) (ws : List ℕ) where
   says-within zero p h = at-end p (found-end sync ws p (omega arith))
   says-within (suc k) p h = by-found k p h (λ q. says-within k q) (nextFrom sync ws p) refl
 
-  pub says : (p : ℕ) → Says sync ws p (nextPiece sync ws p)
-  says p = says-within (length ws) p (omega arith)
+pub pieces-said : PiecesSaid
+pieces-said = record { start = λ sync ws. refl; says = λ sync ws p. says-within sync ws (length ws) p (omega arith) }

@@ -3,3 +3,4 @@ pub mod Resync
 pub mod Written
 pub mod Local
 pub mod Place
+pub mod Examples

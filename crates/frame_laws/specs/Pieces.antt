@@ -1,27 +1,30 @@
--- FORMAT, "Frames" and "Listing program": going through a recording with the next frame or stray from a place, and on from the place that it gives, finds the
--- recording's frames and strays in order of position, and no others.
+-- FORMAT, "Frames" and "Listing program": going through a recording with the next frame or stray from a place, and on from the place where it ends, finds the
+-- recording's frames and strays in order of position, and no others; and each is told as what it is.
 use Prim.Native.Nat.{ℕ, suc}
 use mathlib.Core.Path.{_≡_}
-use mathlib.Core.Bool.{false}
+use mathlib.Core.Bool.{true}
 use mathlib.Core.List.{List, [], _∷_}
 use lib.ListN.{getD, drop}
-use Rattle.base.specs.declared.Words.{Words}
-use Rattle.chunk.specs.declared.Entry.{Entry}
-use Rattle.chunk.specs.Reading.{entry, listed}
+use Rattle.chunk.specs.Reading.{entry}
 use Rattle.frame.specs.declared.Piece.{Piece}
-use Rattle.frame.specs.declared.Piece.the-variants.{Whole, Stray, End}
-use Rattle.frame.specs.Pieces.{framesAndStrays}
+use Rattle.frame.specs.Shape.{starts, continues}
+use Rattle.frame.specs.Described.{described}
+use Rattle.frame.specs.Pieces.{piecesOf, piecesFrom, nextPiece, pieceNumber, piecePlace, pieceFrame, pieceEnd}
 
--- the frames and strays from a place on, where no chunk and no frame is in hand
-abbrev pub piecesFrom : ℕ → List ℕ → ℕ → List Entry
-piecesFrom sync ws p = framesAndStrays 0 false (listed sync p 0 (drop p ws))
+-- What a piece x says of the frames and strays from the place p on, by its number.
+pub record Says (sync : ℕ) (ws : List ℕ) (p : ℕ) (x : Piece) : Type 0 where
+  -- 0: there are no more
+  pub none : pieceNumber x ≡ 0 → piecesFrom sync ws p ≡ []
+  -- else the first of them stands at its place, and the others are those from its end on
+  pub first : (pieceNumber x ≡ 0 → ⊥) → piecesFrom sync ws p ≡ entry (piecePlace x) (getD ws (suc (piecePlace x)) 0) ∷ piecesFrom sync ws (pieceEnd x)
+  -- 1: the chunk there starts a frame, and the frame is described
+  pub isFrame : pieceNumber x ≡ 1 → (starts (getD ws (suc (piecePlace x)) 0) ≡ true) × (pieceFrame x ≡ described sync (drop (piecePlace x) ws))
+  -- 2: the chunk there is a continuation
+  pub isStray : pieceNumber x ≡ 2 → continues (getD ws (suc (piecePlace x)) 0) ≡ true
 
--- the first of them is at the place q, and the others are those from the place r on
-abbrev pub FirstOf : ℕ → List ℕ → ℕ → Words → Words → Type 0
-FirstOf sync ws p q r = piecesFrom sync ws p ≡ entry (q .0) (getD ws (suc (q .0)) 0) ∷ piecesFrom sync ws (r .0)
-
--- what a piece says of the frames and strays from p on
-abbrev pub Says : ℕ → List ℕ → ℕ → Piece → Type 0
-Says sync ws p (Whole q f r) = FirstOf sync ws p q r
-Says sync ws p (Stray q r) = FirstOf sync ws p q r
-Says sync ws p End = piecesFrom sync ws p ≡ []
+-- Going through a recording.
+pub record PiecesSaid : Type 0 where
+  -- from 0 on they are the recording's frames and strays
+  pub start : (sync : ℕ) (ws : List ℕ) → piecesFrom sync ws 0 ≡ piecesOf sync ws
+  -- and from every place on the next piece says what the first of them is, and where the others begin
+  pub says : (sync : ℕ) (ws : List ℕ) (p : ℕ) → Says sync ws p (nextPiece sync ws p)

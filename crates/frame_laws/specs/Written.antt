@@ -1,5 +1,5 @@
 -- FORMAT, "The three demands": demand 2 for frames. A frame that is written chunk by chunk, with its observation packet after it, is complete and gives its data back.
-use Prim.Native.Nat.{ℕ, _%_, _≤_}
+use Prim.Native.Nat.{ℕ, suc, _%_, _≤_}
 use mathlib.Core.Path.{_≡_}
 use mathlib.Core.Bool.{Bool, true, false, _&&_}
 use mathlib.Core.List.{List, [], _∷_, _++_}
@@ -7,6 +7,7 @@ use lib.ListN.{length}
 use lib.Dec.{leb, eqb}
 use Rattle.base_room.specs.Room.{put}
 use Rattle.base.specs.Limit.{recordingLimit}
+use Rattle.base.specs.Size.{parityWidth, unitWidth}
 use Rattle.chunk_laws.specs.Stretch.{Laid, words, offset, wholeRow}
 use Rattle.chunk_laws.specs.Written.{accepted, written}
 use Rattle.parity_laws.specs.Units.{Hold}
@@ -22,8 +23,8 @@ joined (l ∷ ls) = l ++ joined ls
 -- a row of units: each of 264 words, the last one possibly shorter, of 9 at the least
 unfoldable pub unitRow : List (List ℕ) → Bool
 unitRow [] = false
-unitRow (u ∷ []) = leb 9 (length u) && leb (length u) 264
-unitRow (u ∷ v ∷ us) = eqb (length u) 264 && unitRow (v ∷ us)
+unitRow (u ∷ []) = leb (suc parityWidth) (length u) && leb (length u) unitWidth
+unitRow (u ∷ v ∷ us) = eqb (length u) unitWidth && unitRow (v ∷ us)
 
 -- The chunks of a frame, each given by its units: the first has the camera, the others are continuations.
 abbrev pub frameRow : ℕ → List (List (List ℕ)) → List Laid
@@ -39,7 +40,7 @@ writable cam (us ∷ uss) = unitRow us && accepted 0 cam (joined us) && writable
 unfoldable pub fullButLast : List (List (List ℕ)) → Bool
 fullButLast [] = false
 fullButLast (us ∷ []) = true
-fullButLast (us ∷ vs ∷ uss) = eqb (length (joined us) % 264) 0 && fullButLast (vs ∷ uss)
+fullButLast (us ∷ vs ∷ uss) = eqb (length (joined us) % unitWidth) 0 && fullButLast (vs ∷ uss)
 
 -- all units of a frame, in order
 abbrev pub allUnits : List (List (List ℕ)) → List (List ℕ)

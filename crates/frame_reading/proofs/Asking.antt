@@ -6,8 +6,8 @@ use Prim.Native.Nat.{ℕ, _+_, _-_, _≤_, _<_}
 use native.Mathlib.Omega.{arith}
 use lib.ListN.{length, take, drop, getD, length-drop}
 use lib.Seq.{getD-drop}
-use lib.Dec.{leb, ltb, eqb}
-use borrow.Author.Tests.{not-false, eqb-true, ltb-true, lt-ltb, le-ltb, ltb-false}
+use lib.Dec.{ltb, eqb}
+use borrow.Author.Tests.{not-false, eqb-true, lt-ltb, le-ltb, ltb-false}
 use Rattle.base.proofs.Booleans.{and-left, and-right}
 use Rattle.base_room.proofs.RoomLaws.{to-end}
 use Rattle.base.specs.Refusal.{Causes, verdict, answer, wrongLength, nothingThere, frameCut, wrongParity, noRoom}
@@ -15,7 +15,7 @@ use Rattle.base.specs.Limit.{tooLong}
 use Rattle.base_room.specs.Room.{put}
 use Rattle.base.proofs.Refused.{numbered, spared, answer-no, answer-yes, verdict-kept, verdict-further}
 use Rattle.base.specs.declared.Words.{Words}
-use Rattle.chunk.specs.Header.{kind, camera, confirmed}
+use Rattle.chunk.specs.Header.{confirmed}
 use Rattle.chunk.specs.Reading.{entry, leftAt, listedAt}
 use Rattle.chunk.proofs.Steps.{confirmed-bounds}
 use Rattle.parity_units.specs.Split.{anyDamaged, givenData, dataWords}
@@ -30,7 +30,7 @@ use Rattle.frame_reading.specs.Along.{wordsAlong, unitsAlong}
 use Rattle.frame_reading.specs.Replies.{refused, atCauses, atReply, judgeCauses, judgeReply, readCauses, readReply, readRoom}
 use Rattle.frame.proofs.Joining.{confirmed-inside, next-here}
 use Rattle.frame.proofs.Walking.{longer-than-header}
-use Rattle.frame.proofs.pieces.Stepping.{frame-next}
+use Rattle.frame.proofs.Stepping.{frame-next}
 use Rattle.frame_reading.proofs.Rows.{frame-units, frame-within, frame-data}
 
 -- ---- the place
@@ -39,9 +39,7 @@ use Rattle.frame_reading.proofs.Rows.{frame-units, frame-within, frame-
 first-piece : (sync : ℕ) (vs : List ℕ) → startsFrame sync vs ≡ true → nextPiece sync vs 0 ≡ frameThere sync vs 0
 first-piece sync vs s =
     let h : ℕ = getD vs 1 0 in
-    let t : starts h ≡ true = and-right (confirmed sync vs) (starts h) s in
-    frame-next sync vs 0 (entry 0 h) _ (next-here sync vs 0 (and-left (confirmed sync vs) (starts h) s))
-    (eqb-true (kind h) 0 (and-left (eqb (kind h) 0) (leb 1 (camera h)) t)) t
+    frame-next sync vs 0 (entry 0 h) _ (next-here sync vs 0 (and-left (confirmed sync vs) (starts h) s)) (and-right (confirmed sync vs) (starts h) s)
 
 module _ (sync p : ℕ) (ws : List ℕ) where
   listed-confirmed : listedAt sync ws p ≡ true → confirmed sync (drop p ws) ≡ true
@@ -88,7 +86,7 @@ module _ (sync p : ℕ) (ws : List ℕ) where
       piece-here : x ≡ frameThere sync here 0
       piece-here = q ∙ ap (λ (vs : List ℕ). nextPiece sync vs 0) (to-end p ws) ∙ first-piece sync here starts-here
 
-      pub at-given : (a b : Words) (r : Frame) → x ≡ Piece.Whole a r b → r ≡ atReply sync ws p
+      pub at-given : (a b : Words) (r : Frame) → x ≡ Piece.Frame a r b → r ≡ atReply sync ws p
       unfolding atReply
       at-given a b r t =
           let e : r ≡ described sync here = cc piece-here in

@@ -17,9 +17,9 @@ use Rattle.chunk.specs.declared.Entry.{Entry}
 use Rattle.chunk.specs.Header.{size, camera, kind, span, imageSize, confirmed}
 use Rattle.chunk.specs.Reading.{entry, listedWords}
 use Rattle.chunk.proofs.Steps.{confirmed-bounds, confirmed-end}
-use Rattle.parity_units.specs.Split.{unitsIn, anyDamaged, joinedData, givenData, dataWords}
+use Rattle.parity_units.specs.Split.{unitsIn, anyDamaged, givenData}
 use Rattle.parity_units.proofs.Split.{Fair, fair-append, units-fair, given-all}
-use Rattle.frame.specs.Shape.{starts, continues, whole, joining, frameChunks, frameWords}
+use Rattle.frame.specs.Shape.{starts, continues, whole, joining, frameChunks}
 use Rattle.frame.specs.Picture.{payloadOf, chunkUnits, unitsOf, frameUnits, frameData}
 use Rattle.frame.specs.Walk.{startsFrame}
 use Rattle.frame.proofs.Joining.{listedFrom, confirmed-inside, joining-step, joining-stop}

@@ -54,7 +54,7 @@ pub fn at(recording: &[u16], sync: u16, place: Words) -> Frame
     let from = place.0;
     let piece = pieces::next(&recording[from..], sync, Words(0));
     match piece {
-        Piece::Whole(_, frame, _) => frame,
+        Piece::Frame(_, frame, _) => frame,
         Piece::Stray(_, _) => refused(refusal::NOTHING_THERE),
         Piece::End => refused(refusal::NOTHING_THERE),
     }
@@ -79,14 +79,14 @@ pub fn judge(recording: &[u16], sync: u16, place: Words) -> Frame
 }
 
 // The reader's reply, for a room of so many words.
-fn look(recording: &[u16], sync: u16, place: Words, room: usize) -> Frame
-    ensures { λ r. ⌜ r ≡ readReply sync (now (recording .entry)) (place .0) room ⌝ }
+fn look(recording: &[u16], sync: u16, place: Words, room: Words) -> Frame
+    ensures { λ r. ⌜ r ≡ readReply sync (now (recording .entry)) (place .0) (room .0) ⌝ }
 {
     let frame = judge(recording, sync, place);
     if frame.refusal != 0 {
         return frame;
     }
-    if room < frame.length.0 {
+    if room.0 < frame.length.0 {
         return refused(refusal::ROOM);
     }
     frame
@@ -97,7 +97,7 @@ pub fn read(recording: &[u16], sync: u16, place: Words, room: &mut [u16]) -> Fra
     ensures { λ r. ⌜ r ≡ readReply sync (now (recording .entry)) (place .0) (length (now (room .entry))) ⌝ }
     ensures { λ _. ⌜ now (room .exit) ≡ readRoom sync (now (recording .entry)) (place .0) (now (room .entry)) ⌝ }
 {
-    let frame = look(recording, sync, place, room.len());
+    let frame = look(recording, sync, place, Words(room.len()));
     if frame.refusal != 0 {
         return frame;
     }

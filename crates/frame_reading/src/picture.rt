@@ -2,6 +2,7 @@
 // words tell where they are.
 use base::Words;
 use chunk::header;
+use chunk::header::HEADER;
 ghost use mathlib.Core.Path.{_≡_};
 ghost use Prim.Native.Nat.{_≤_};
 ghost use lib.ListN.{length};
@@ -15,15 +16,16 @@ pub fn damaged(words: &[u16], chunks: usize) -> bool
     ensures { λ r. ⌜ r ≡ anyDamaged (unitsAlong chunks (now (words .entry))) ⌝ }
 {
     let mut left = chunks;
-    let mut at = 0;
+    let mut at = Words(0);
     while 0 < left {
-        let from = at + header::HEADER.0;
-        let to = from + header::size_of(words[at + 1]).0;
+        let begins = at.0;
+        let from = begins + HEADER.0;
+        let to = from + header::size_of(words[begins + 1]).0;
         if parity_units::damaged(&words[from..to]) {
             return true;
         }
         left -= 1;
-        at = to;
+        at = Words(to);
     }
     false
 }
@@ -35,13 +37,15 @@ pub fn data(words: &[u16], chunks: usize, room: &mut [u16])
     ensures { λ _. ⌜ now (room .exit) ≡ put (givenData (unitsAlong chunks (now (words .entry)))) 0 (now (room .entry)) ⌝ }
 {
     let mut left = chunks;
-    let mut at = 0;
-    let mut place = 0;
+    let mut at = Words(0);
+    let mut place = Words(0);
     while 0 < left {
-        let from = at + header::HEADER.0;
-        let to = from + header::size_of(words[at + 1]).0;
-        place += parity_units::join(&words[from..to], room, Words(place)).0;
+        let begins = at.0;
+        let from = begins + HEADER.0;
+        let to = from + header::size_of(words[begins + 1]).0;
+        let past = place.0 + parity_units::join(&words[from..to], room, place).0;
+        place = Words(past);
         left -= 1;
-        at = to;
+        at = Words(to);
     }
 }

@@ -4,7 +4,16 @@ use mathlib.Core.Bool.{Bool, _&&_, _||_}
 use mathlib.Core.List.{List, _++_}
 use lib.ListN.{length, getD, take, drop}
 use lib.Dec.{leb, eqb}
+use Rattle.base.specs.Size.{packetWidth}
 use Rattle.crc.specs.Crc.{crcWords, crcStart}
+
+-- the words after type, CRC and time
+abbrev pub bodyWidth : ℕ
+bodyWidth = 29
+
+-- the 32 words at a place, fewer where the words end before
+abbrev pub packetAt : List ℕ → ℕ → List ℕ
+packetAt ws p = take packetWidth (drop p ws)
 
 -- word 0
 abbrev pub packetType : List ℕ → ℕ
@@ -32,4 +41,4 @@ permittedType t = (leb 1 t && leb t 15) || eqb (t % 16) 0
 
 -- Sound: 32 words, the CRC right and the type permitted.
 unfoldable pub soundPacket : List ℕ → Bool
-soundPacket p = eqb (length p) 32 && crcRight p && permittedType (packetType p)
+soundPacket p = eqb (length p) packetWidth && crcRight p && permittedType (packetType p)

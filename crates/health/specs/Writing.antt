@@ -4,11 +4,12 @@ use mathlib.Core.Bool.{Bool, not}
 use mathlib.Core.List.{List, [], _∷_}
 use lib.ListN.{length}
 use lib.Dec.{eqb, ltb}
+use Rattle.base.specs.Size.{packetWidth}
 use Rattle.base.specs.Refusal.{Causes, verdict, answer, settled, wrongArgument, wrongLength, noRoom}
 use Rattle.base_room.specs.Room.{put}
 use Rattle.base.specs.declared.Written.{Written}
 use Rattle.crc.specs.Crc.{crcWords, crcStart}
-use Rattle.health.specs.Packet.{permittedType}
+use Rattle.health.specs.Packet.{bodyWidth, permittedType}
 
 -- the writer takes every permitted type
 abbrev pub writableType : ℕ → Bool
@@ -24,13 +25,13 @@ packetFrom t s ws = t ∷ writtenCrc t s ws ∷ s ∷ ws
 
 -- a type that is not permitted; n words that are not 29; less room than 32 words
 abbrev pub writeCauses : ℕ → ℕ → ℕ → Causes
-writeCauses t n room = (wrongArgument, not (writableType t)) ∷ (wrongLength, not (eqb n 29)) ∷ (noRoom, ltb room 32) ∷ []
+writeCauses t n room = (wrongArgument, not (writableType t)) ∷ (wrongLength, not (eqb n bodyWidth)) ∷ (noRoom, ltb room packetWidth) ∷ []
 
 abbrev pub writeVerdict : ℕ → ℕ → ℕ → ℕ
 writeVerdict t n room = verdict (writeCauses t n room)
 
 abbrev pub writeReply : ℕ → ℕ → ℕ → Written
-writeReply t n room = settled (writeVerdict t n room) 32
+writeReply t n room = settled (writeVerdict t n room) packetWidth
 
 -- the room after the call: as it was on a refusal
 unfoldable pub writeRoom : ℕ → ℕ → List ℕ → List ℕ → List ℕ

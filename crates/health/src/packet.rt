@@ -4,18 +4,22 @@ use base::Written;
 use base::refusal;
 use base::size::PACKET;
 ghost use mathlib.Core.Path.{_≡_};
-ghost use lib.ListN.{length, take, drop};
+ghost use lib.ListN.{length, drop};
+ghost use Rattle.base.specs.Size.{packetWidth};
 ghost use Rattle.base.specs.Refusal.{verdict};
-ghost use Rattle.health.specs.Packet.{packetCrc, permittedType, soundPacket};
+ghost use Rattle.health.specs.Packet.{packetAt, packetCrc, permittedType, soundPacket};
 ghost use Rattle.health.specs.Reading.{judgeCauses, readCauses, refused, readReply};
 ghost use Rattle.health.specs.Writing.{writableType, writeReply, writeRoom};
+
+// the words of a packet after its type, its CRC and its time
+const BODY: Words = Words(29);
 
 // What the packet reader gives of a sound packet: its type word, its time and the 29 words after these.
 pub struct Packet {
     pub refusal: u8,
     pub packet_type: u16,
     pub time: u16,
-    pub words: [u16; 29],
+    pub words: [u16; BODY.0],
 }
 
 // The types that readers take: 1 to 15, and all with low four bits 0, which are spare.
@@ -34,7 +38,7 @@ fn writable(packet_type: u16) -> bool
 
 // The CRC over word 0 and words 2 to 31.
 fn packet_crc(packet: &[u16]) -> u16
-    requires { ⌜ length (now packet) ≡ 32 ⌝ }
+    requires { ⌜ length (now packet) ≡ packetWidth ⌝ }
     ensures { λ r. ⌜ r ≡ packetCrc (now (packet .entry)) ⌝ }
 {
     crc::words(crc::words(crc::START, &packet[..1]), &packet[2..])
@@ -63,7 +67,7 @@ fn read_verdict(packet: &[u16]) -> u8
 }
 
 // Whether these words are a sound packet.
-pub fn is_sound(packet: &[u16]) -> bool
+fn is_sound(packet: &[u16]) -> bool
     ensures { λ r. ⌜ r ≡ soundPacket (now (packet .entry)) ⌝ }
 {
     read_verdict(packet) == 0
@@ -71,7 +75,7 @@ pub fn is_sound(packet: &[u16]) -> bool
 
 // Whether a sound packet stands at a place of the words.
 pub fn sound_at(words: &[u16], at: Words) -> bool
-    ensures { λ r. ⌜ r ≡ soundPacket (take 32 (drop (at .0) (now (words .entry)))) ⌝ }
+    ensures { λ r. ⌜ r ≡ soundPacket (packetAt (now (words .entry)) (at .0)) ⌝ }
 {
     let from = at.0;
     let n = words.len();
@@ -86,11 +90,11 @@ pub fn sound_at(words: &[u16], at: Words) -> bool
 }
 
 // The 29 words after the first three.
-fn words_of(packet: &[u16]) -> [u16; 29]
-    requires { ⌜ length (now packet) ≡ 32 ⌝ }
+fn words_of(packet: &[u16]) -> [u16; BODY.0]
+    requires { ⌜ length (now packet) ≡ packetWidth ⌝ }
     ensures { λ r. ⌜ r ≡ drop 3 (now (packet .entry)) ⌝ }
 {
-    let mut words = [0u16; 29];
+    let mut words = [0u16; BODY.0];
     base_room::put_words(&packet[3..], &mut words, Words(0));
     words
 }
@@ -102,7 +106,7 @@ fn refused(number: u8) -> Packet
         refusal: number,
         packet_type: 0,
         time: 0,
-        words: [0; 29],
+        words: [0; BODY.0],
     }
 }
 
@@ -132,7 +136,7 @@ fn plan(packet_type: u16, words: usize, room: usize) -> Written
             !writable(packet_type),
             refusal::cause(
                 refusal::LENGTH,
-                words != 29,
+                words != BODY.0,
                 refusal::cause(refusal::ROOM, room < PACKET.0, 0),
             ),
         ),

@@ -1,2 +1,2 @@
+pub mod Later
 pub mod Placed
-pub mod Lasts

@@ -1,36 +1,33 @@
 -- The answer about the last packet: which of its causes holds, and that a place that is shown has 32 words.
 use mathlib.Core.Path.{_≡_, refl, sym, ap, ap₂, _∙_}
 use mathlib.Core.Bool.{Bool, true, false, cond}
-use mathlib.Core.List.{List, [], _∷_, _++_}
+use mathlib.Core.List.{List, [], _∷_}
+use mathlib.Core.Logic.{inl, inr}
 use Prim.Native.Nat.{ℕ, _+_, _≤_}
 use native.Mathlib.Omega.{arith}
 use lib.ListN.{length, take, drop, length-take, length-drop}
-use lib.Dec.{eqb, ltb}
+use lib.Dec.{eqb}
 use borrow.Author.Tests.{eq-eqb, ne-eqb, eqb-true, eqb-false}
 use Rattle.base.proofs.Booleans.{and-left, and-right}
 use Rattle.base.specs.Refusal.{Causes, verdict, nothingThere}
-use Rattle.base.specs.declared.Words.{Words}
-use Rattle.base.proofs.Refused.{numbered, spared, answer-no, answer-yes}
+use Rattle.base.proofs.Refused.{verdict-kept, verdict-further, answer-no, answer-yes}
 use Rattle.health.specs.Packet.{packetType, soundPacket}
 use Rattle.health.proofs.Sound.{sound-long}
 use Rattle.health_last.specs.declared.Place.{Place}
 use Rattle.health_last.specs.declared.Sought.{Sought}
 use Rattle.health_last.specs.declared.Sought.the-variants.{At, Nowhere}
-use Rattle.health_last.specs.Packets.{sciencePlaces, healthPlaces, soundOf, later, lastWhere}
+use Rattle.health_last.specs.Packets.{sciencePlaces, healthPlaces, soundOf, foundAt, lastWhere}
 use Rattle.health_last.specs.Last.{inScience, inHealth, refused, shown, argumentCauses, lastCauses, lastPlaceReply, partAt, lastPacketReply}
+use Rattle.health_last.proofs.Later.{last-cases, nothing-in-none}
 
 -- ---- the place that is found passes the test
 
-pub last-holds : (f : ℕ → Bool) (ps : List ℕ) (p : Words) → lastWhere f ps ≡ At p → f (p .0) ≡ true
-unfolding lastWhere
-last-holds f [] p e = let z : _≡_ {A = ℕ} 0 1 = cc in absurd (omega arith)
-last-holds f (q ∷ ps) p e = by-cases (last-holds f ps p) (lastWhere f ps) refl (f q) refl e
-  where
-    by-cases : (lastWhere f ps ≡ At p → f (p .0) ≡ true) → (s : Sought) → lastWhere f ps ≡ s → (b : Bool) → f q ≡ b
-        → later s (cond b (At (record { 0 = q })) Nowhere) ≡ At p → f (p .0) ≡ true
-    by-cases further (At r) es b eb e = further (es ∙ e)
-    by-cases further Nowhere es true eb e = let z : record { 0 = q } ≡ p = cc in ap (λ (w : Words). f (w .0)) (sym z) ∙ eb
-    by-cases further Nowhere es false eb e = let z : _≡_ {A = ℕ} 0 1 = cc in absurd (omega arith)
+pub last-holds : (f : ℕ → Bool) (ps : List ℕ) (p : ℕ) → lastWhere f ps ≡ foundAt p → f p ≡ true
+last-holds f [] p e = absurd (nothing-in-none f p e)
+last-holds f (q ∷ ps) p e = elim (last-cases f q ps p e) as (λ x. f p ≡ true) [
+  | inl k ↦ last-holds f ps p k
+  | inr k ↦ ap f (sym (k .0)) ∙ k .1
+]
 
 pub sound-parts : (t : ℕ) (ws : List ℕ) (p : ℕ) → soundOf ws t p ≡ true → (packetType (take 32 (drop p ws)) ≡ t) × (soundPacket (take 32 (drop p ws)) ≡ true)
 unfolding soundOf
@@ -46,17 +43,6 @@ sound-within t ws p e =
 
 -- ---- the causes
 
--- further causes tell nothing where one of the first holds, and all where none does
-verdict-first : (cs ds : Causes) → (verdict cs ≡ 0 → ⊥) → verdict (cs ++ ds) ≡ verdict cs
-verdict-first [] ds h = absurd (h refl)
-verdict-first ((n, true) ∷ cs) ds h = refl
-verdict-first ((n, false) ∷ cs) ds h = verdict-first cs ds h
-
-verdict-last : (cs ds : Causes) → numbered cs ≡ true → verdict cs ≡ 0 → verdict (cs ++ ds) ≡ verdict ds
-verdict-last [] ds k e = refl
-verdict-last ((n, true) ∷ cs) ds k e = let z = spared ((n, true) ∷ cs) k e .0 in let o : _≡_ {A = ℕ} 0 1 = cc in absurd (omega arith)
-verdict-last ((n, false) ∷ cs) ds k e = verdict-last cs ds (and-right (ltb 0 n) (numbered cs) k) e
-
 module _ (sync : ℕ) (science : List ℕ) (t : ℕ) (health : List ℕ) {v : ℕ} (e : v ≡ verdict (argumentCauses science health t)) where
   abbrev found : Place
   found = shown (inScience sync science t) (inHealth health t)
@@ -70,7 +56,7 @@ module _ (sync : ℕ) (science : List ℕ) (t : ℕ) (health : List ℕ) {v : �
   pub arguments-refused : (v ≡ 0 → ⊥) → refused v ≡ lastPlaceReply sync science health t
   unfolding lastPlaceReply
   arguments-refused h =
-      let k = verdict-first arguments neither (λ z. h (e ∙ z)) in
+      let k = verdict-kept arguments neither (λ z. h (e ∙ z)) in
       ap refused (e ∙ sym k) ∙ sym (answer-no _ _ found (λ z. h (e ∙ sym k ∙ z)))
 
   module _ (z : v ≡ 0) {a b : Sought} (ea : a ≡ inScience sync science t) (eb : b ≡ inHealth health t) {s : Place} (ec : s ≡ shown a b) where
@@ -79,7 +65,7 @@ module _ (sync : ℕ) (science : List ℕ) (t : ℕ) (health : List ℕ) {v : �
 
     last-verdict : (b : Bool) → eqb (s .recording) 0 ≡ b → verdict (lastCauses sync science health t) ≡ cond b nothingThere 0
     last-verdict b eb =
-        verdict-last arguments neither refl (sym e ∙ z)
+        verdict-further arguments neither refl (sym e ∙ z)
         ∙ ap (λ (x : Bool). cond x nothingThere 0) (sym (ap (λ (x : Place). eqb (x .recording) 0) es) ∙ eb)
 
     pub none-refused : s .recording ≡ 0 → refused nothingThere ≡ lastPlaceReply sync science health t
@@ -127,10 +113,10 @@ module _ (sync : ℕ) (science : List ℕ) (t : ℕ) (health : List ℕ) {s : Pl
       (q .0, q .1 ∙ ap (λ (x : Place). At (x .at)) (sym k))
 
   pub science-within : s .recording ≡ 1 → s .at .0 + 32 ≤ length science
-  science-within h = sound-within t science (s .at .0) (last-holds (soundOf science t) (sciencePlaces sync science) (s .at) (of-science h))
+  science-within h = sound-within t science (s .at .0) (last-holds (soundOf science t) (sciencePlaces sync science) (s .at .0) (of-science h))
 
   pub health-within : s .recording ≡ 2 → s .at .0 + 32 ≤ length health
-  health-within h = sound-within t health (s .at .0) (last-holds (soundOf health t) (healthPlaces health) (s .at) (of-health h .1))
+  health-within h = sound-within t health (s .at .0) (last-holds (soundOf health t) (healthPlaces health) (s .at .0) (of-health h .1))
 
   pub science-part : s .recording ≡ 1 → take 32 (drop (s .at .0) science) ≡ lastPacketReply sync science health t
   unfolding partAt

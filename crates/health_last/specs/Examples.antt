@@ -8,7 +8,7 @@ use Rattle.base.specs.Refusal.{answer, followsPaper}
 use Rattle.crc.specs.Crc.{crcBit, crcStep}
 use Rattle.chunk.specs.Header.{legalSize, legal, headed, ends, confirmed}
 use Rattle.chunk.specs.Reading.{listed}
-use Rattle.health.specs.Packet.{packetCrc, soundPacket}
+use Rattle.health.specs.Packet.{bodyWidth, packetCrc, soundPacket}
 use Rattle.health.specs.Writing.{writtenCrc, packetFrom}
 use Rattle.health_last.specs.declared.Place.{Place}
 use Rattle.health_last.specs.Packets.{packetPlaces, chunkPlaces, placesOf, soundOf, lastWhere}
@@ -16,7 +16,7 @@ use Rattle.health_last.specs.Last.{place, refused, lastCauses, lastPlace
 
 -- a packet of this type
 packet : ℕ → List ℕ
-packet t = packetFrom t 0 (replicate 29 0)
+packet t = packetFrom t 0 (replicate bodyWidth 0)
 
 -- what is answered about type 4
 asked : List ℕ → List ℕ → Place

@@ -2,10 +2,12 @@
 use Prim.Native.Nat.{ℕ, _%_}
 use mathlib.Core.Bool.{Bool, cond, not, _&&_, _||_}
 use mathlib.Core.List.{List, [], _∷_, _++_}
-use lib.ListN.{length, take, drop}
+use lib.ListN.{length}
 use lib.Dec.{leb, eqb}
+use Rattle.base.specs.Size.{packetWidth}
 use Rattle.base.specs.Limit.{tooLong, healthLimit}
 use Rattle.base.specs.Refusal.{Causes, verdict, answer, wrongArgument, wrongLength, nothingThere}
+use Rattle.health.specs.Packet.{packetAt}
 use Rattle.health_last.specs.declared.Sought.{Sought}
 use Rattle.health_last.specs.declared.Sought.the-variants.{At, Nowhere}
 use Rattle.health_last.specs.declared.Place.{Place}
@@ -36,7 +38,7 @@ askedType t = leb 1 t && leb t 15
 
 -- a health recording has a multiple of 32 words, at most 32,768
 abbrev pub healthLength : ℕ → Bool
-healthLength n = eqb (n % 32) 0 && leb n healthLimit
+healthLength n = eqb (n % packetWidth) 0 && leb n healthLimit
 
 -- a type that cannot be asked for; either recording too long, or the health recording no packets back to back
 abbrev pub argumentCauses : List ℕ → List ℕ → ℕ → Causes
@@ -56,7 +58,7 @@ lastPlaceReply sync science health t =
 -- the 32 words at a place of one of the two; no words where nothing is shown
 unfoldable pub partAt : Place → List ℕ → List ℕ → List ℕ
 partAt s science health =
-    cond (eqb (s .recording) 1) (take 32 (drop (s .at .0) science)) (cond (eqb (s .recording) 2) (take 32 (drop (s .at .0) health)) [])
+    cond (eqb (s .recording) 1) (packetAt science (s .at .0)) (cond (eqb (s .recording) 2) (packetAt health (s .at .0)) [])
 
 abbrev pub lastPacketReply : ℕ → List ℕ → List ℕ → ℕ → List ℕ
 lastPacketReply sync science health t = partAt (lastPlaceReply sync science health t) science health

@@ -2,23 +2,24 @@
 use Prim.Native.Nat.{ℕ, zero, suc, _+_, _/_}
 use mathlib.Core.Bool.{Bool, cond, _&&_}
 use mathlib.Core.List.{List, [], _∷_, _++_}
-use lib.ListN.{length, take, drop}
+use lib.ListN.{length}
 use lib.Dec.{eqb}
+use Rattle.base.specs.Size.{packetWidth}
 use Rattle.chunk.specs.declared.Entry.{Entry}
 use Rattle.chunk.specs.Header.{kind, size}
 use Rattle.chunk.specs.Reading.{reading}
-use Rattle.health.specs.Packet.{packetType, soundPacket}
+use Rattle.health.specs.Packet.{packetAt, packetType, soundPacket}
 use Rattle.health_last.specs.declared.Sought.{Sought}
 use Rattle.health_last.specs.declared.Sought.the-variants.{At, Nowhere}
 
 -- the places of n packets back to back, the first at the place `at`
 unfoldable pub packetPlaces : ℕ → ℕ → List ℕ
 packetPlaces zero at = []
-packetPlaces (suc n) at = at ∷ packetPlaces n (at + 32)
+packetPlaces (suc n) at = at ∷ packetPlaces n (at + packetWidth)
 
 -- the packets of a chunk: its payload after the two words of the header, where it is health
 unfoldable pub chunkPlaces : Entry → List ℕ
-chunkPlaces e = cond (eqb (kind (e .header)) 1) (packetPlaces (size (e .header) / 32) (e .position .0 + 2)) []
+chunkPlaces e = cond (eqb (kind (e .header)) 1) (packetPlaces (size (e .header) / packetWidth) (e .position .0 + 2)) []
 
 -- the packets of these chunks, in order
 unfoldable pub placesOf : List Entry → List ℕ
@@ -31,11 +32,18 @@ sciencePlaces sync ws = placesOf (reading sync ws)
 
 -- a health recording is packets back to back
 abbrev pub healthPlaces : List ℕ → List ℕ
-healthPlaces ws = packetPlaces (length ws / 32) 0
+healthPlaces ws = packetPlaces (length ws / packetWidth) 0
 
 -- a sound packet of the type t stands at the place p
 unfoldable pub soundOf : List ℕ → ℕ → ℕ → Bool
-soundOf ws t p = eqb (packetType (take 32 (drop p ws))) t && soundPacket (take 32 (drop p ws))
+soundOf ws t p = eqb (packetType (packetAt ws p)) t && soundPacket (packetAt ws p)
+
+-- the place p was found; none was
+abbrev pub foundAt : ℕ → Sought
+foundAt p = At (record { 0 = p })
+
+abbrev pub nowhere : Sought
+nowhere = Nowhere
 
 -- the later of two, where it is there
 abbrev pub later : Sought → Sought → Sought
@@ -44,5 +52,5 @@ later Nowhere s = s
 
 -- the last of these places where the test holds
 unfoldable pub lastWhere : (ℕ → Bool) → List ℕ → Sought
-lastWhere holds [] = Nowhere
-lastWhere holds (p ∷ ps) = later (lastWhere holds ps) (cond (holds p) (At (record { 0 = p })) Nowhere)
+lastWhere holds [] = nowhere
+lastWhere holds (p ∷ ps) = later (lastWhere holds ps) (cond (holds p) (foundAt p) nowhere)

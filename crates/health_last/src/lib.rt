@@ -7,12 +7,14 @@ use base::refusal;
 use base::size::PACKET;
 ghost use mathlib.Core.Path.{_≡_};
 ghost use Prim.Native.Nat.{_+_, _≤_};
-ghost use lib.ListN.{length, take, drop};
+ghost use lib.ListN.{length};
+ghost use Rattle.base.specs.Size.{packetWidth};
 ghost use Rattle.base.specs.Refusal.{verdict};
+ghost use Rattle.health.specs.Packet.{packetAt};
 ghost use Rattle.health_last.specs.Last.{argumentCauses, refused, shown, lastPlaceReply, lastPacketReply};
 
 // The place of a packet that was looked for.
-pub enum Sought {
+enum Sought {
     At(Words),
     Nowhere,
 }
@@ -78,7 +80,7 @@ pub fn last_place(science: &[u16], sync: u16, health: &[u16], packet_type: u16) 
         return refused(verdict);
     }
     let in_science = seek::in_science(science, sync, packet_type);
-    let in_health = seek::in_row(health, packet_type, 0, health.len() / PACKET.0);
+    let in_health = seek::in_row(health, packet_type, Words(0), health.len() / PACKET.0);
     let place = choose(in_science, in_health);
     if place.recording == 0 {
         return refused(refusal::NOTHING_THERE);
@@ -87,10 +89,11 @@ pub fn last_place(science: &[u16], sync: u16, health: &[u16], packet_type: u16) 
 }
 
 // The 32 words at a place.
-fn packet_at(words: &[u16], from: usize) -> &[u16]
-    requires { ⌜ from + 32 ≤ length (now words) ⌝ }
-    ensures { λ r. ⌜ now r ≡ take 32 (drop from (now (words .entry))) ⌝ }
+fn packet_at(words: &[u16], at: Words) -> &[u16]
+    requires { ⌜ at .0 + packetWidth ≤ length (now words) ⌝ }
+    ensures { λ r. ⌜ now r ≡ packetAt (now (words .entry)) (at .0) ⌝ }
 {
+    let from = at.0;
     let end = from + PACKET.0;
     &words[from..end]
 }
@@ -106,10 +109,10 @@ pub fn last_packet<'a>(
 {
     let place = last_place(science, sync, health, packet_type);
     if place.recording == 1 {
-        return packet_at(science, place.at.0);
+        return packet_at(science, place.at);
     }
     if place.recording == 2 {
-        return packet_at(health, place.at.0);
+        return packet_at(health, place.at);
     }
     &science[..0]
 }

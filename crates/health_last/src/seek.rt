@@ -2,6 +2,7 @@
 use crate::Sought;
 use base::Words;
 use base::size::PACKET;
+use chunk::Entry;
 use chunk::Found;
 use chunk::header;
 use chunk::search;
@@ -9,50 +10,50 @@ use health::packet;
 ghost use mathlib.Core.Path.{_≡_};
 ghost use Prim.Native.Nat.{_+_, _*_, _≤_};
 ghost use lib.ListN.{length};
+ghost use Rattle.base.specs.Size.{packetWidth};
 ghost use Rattle.chunk.specs.Header.{span};
-ghost use Rattle.chunk.specs.Reading.{entry};
 ghost use Rattle.health_last.specs.Packets.{packetPlaces, chunkPlaces, soundOf, later, lastWhere};
 ghost use Rattle.health_last.specs.Last.{inScience};
 
 // Whether a sound packet of the type stands at a place. The CRC is computed only where the type is the asked one.
-fn is_of(words: &[u16], packet_type: u16, at: usize) -> bool
-    ensures { λ r. ⌜ r ≡ soundOf (now (words .entry)) «packet_type» at ⌝ }
+fn is_of(words: &[u16], packet_type: u16, at: Words) -> bool
+    ensures { λ r. ⌜ r ≡ soundOf (now (words .entry)) «packet_type» (at .0) ⌝ }
 {
-    if base_room::word_at(words, Words(at)) != packet_type {
+    if base_room::word_at(words, at) != packet_type {
         return false;
     }
-    packet::sound_at(words, Words(at))
+    packet::sound_at(words, at)
 }
 
 // The last sound packet of the type among `count` packets back to back, from the back.
-pub fn in_row(words: &[u16], packet_type: u16, from: usize, count: usize) -> Sought
-    requires { ⌜ from + 32 * count ≤ length (now words) ⌝ }
-    ensures { λ r. ⌜ r ≡ lastWhere (soundOf (now (words .entry)) «packet_type») (packetPlaces count from) ⌝ }
+pub fn in_row(words: &[u16], packet_type: u16, from: Words, count: usize) -> Sought
+    requires { ⌜ from .0 + packetWidth * count ≤ length (now words) ⌝ }
+    ensures { λ r. ⌜ r ≡ lastWhere (soundOf (now (words .entry)) «packet_type») (packetPlaces count (from .0)) ⌝ }
 {
     let mut left = count;
     while 0 < left {
         left -= 1;
-        let at = from + PACKET.0 * left;
+        let at = Words(from.0 + PACKET.0 * left);
         if is_of(words, packet_type, at) {
-            return Sought::At(Words(at));
+            return Sought::At(at);
         }
     }
     Sought::Nowhere
 }
 
 // The last sound packet of the type in a chunk.
-fn in_chunk(words: &[u16], packet_type: u16, position: usize, header: u16) -> Sought
-    requires { ⌜ position + span header ≤ length (now words) ⌝ }
-    ensures { λ r. ⌜ r ≡ lastWhere (soundOf (now (words .entry)) «packet_type») (chunkPlaces (entry position header)) ⌝ }
+fn in_chunk(words: &[u16], packet_type: u16, chunk: Entry) -> Sought
+    requires { ⌜ chunk .position .0 + span (chunk .header) ≤ length (now words) ⌝ }
+    ensures { λ r. ⌜ r ≡ lastWhere (soundOf (now (words .entry)) «packet_type») (chunkPlaces chunk) ⌝ }
 {
-    if header::kind_of(header) != 1 {
+    if header::kind_of(chunk.header) != 1 {
         return Sought::Nowhere;
     }
     in_row(
         words,
         packet_type,
-        position + header::HEADER.0,
-        header::size_of(header).0 / PACKET.0,
+        Words(chunk.position.0 + header::HEADER.0),
+        header::size_of(chunk.header).0 / PACKET.0,
     )
 }
 
@@ -70,15 +71,13 @@ pub fn in_science(words: &[u16], sync: u16, packet_type: u16) -> Sought
     ensures { λ r. ⌜ r ≡ inScience sync (now (words .entry)) «packet_type» ⌝ }
 {
     let mut last = Sought::Nowhere;
-    let mut at: usize = 0;
+    let mut at = Words(0);
     loop {
-        let found = search::next(words, sync, Words(at));
-        let Found::Chunk(entry, next) = found else {
+        let found = search::next(words, sync, at);
+        let Found::Chunk(chunk, next) = found else {
             return last;
         };
-        let begins = entry.position.0;
-        let header = entry.header;
-        last = latest(in_chunk(words, packet_type, begins, header), last);
-        at = next.0;
+        last = latest(in_chunk(words, packet_type, chunk), last);
+        at = next;
     }
 }

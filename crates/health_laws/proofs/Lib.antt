@@ -1,1 +1,5 @@
 pub mod RoundTrip
+pub mod Modes
+pub mod Fields
+pub mod Recordings
+pub mod Lasts

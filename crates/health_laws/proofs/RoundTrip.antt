@@ -2,45 +2,59 @@
 use mathlib.Core.Path.{_≡_, refl, sym, ap, _∙_}
 use mathlib.Core.Bool.{true, _&&_}
 use mathlib.Core.List.{List, [], _∷_}
-use Prim.Native.Nat.{ℕ, _+_}
+use Prim.Native.Nat.{ℕ, _+_, _≤_}
 use native.Mathlib.Omega.{arith}
 use lib.ListN.{length, getD, take, drop}
 use lib.Seq.{take-at}
 use lib.Dec.{eqb}
-use borrow.Author.Tests.{eq-eqb, eqb-true, le-ltb}
+use borrow.Author.Tests.{eq-eqb, eqb-true, not-false, ltb-false}
 use Rattle.base.proofs.Booleans.{and-left, and-right}
 use Rattle.base.specs.Refusal.{verdict}
-use Rattle.base.proofs.Refused.{answer-yes}
+use Rattle.base.proofs.Refused.{spared, answer-yes, settled-refusal}
 use Rattle.base_room.proofs.RoomLaws.{put-fits}
 use Rattle.health.specs.Packet.{packetType, packetTime, packetWords, packetCrc, crcRight, permittedType, soundPacket}
-use Rattle.health.specs.Reading.{readCauses, packetOf, readReply}
-use Rattle.health.specs.Writing.{writableType, writtenCrc, packetFrom, writeVerdict, writeRoom}
+use Rattle.health.specs.Reading.{readCauses, readReply}
+use Rattle.health.specs.Writing.{writableType, writtenCrc, packetFrom, writeCauses, writeVerdict, writeRoom}
 use Rattle.health.proofs.Sound.{sound-verdict, sound-long}
-use Rattle.health_laws.specs.Written.{WrittenIsRead, SoundIsWritten}
+use Rattle.health_laws.specs.Written.{Accepted, written, WrittenIsRead, SoundIsWritten}
 
 module _ (t s : ℕ) (ws : List ℕ) (takes : writableType t ≡ true) (long : length ws ≡ 29) where
-  written-length : length (packetFrom t s ws) ≡ 32
+  pub written-length : length (packetFrom t s ws) ≡ 32
   written-length = omega arith
 
   pub written-is-sound : soundPacket (packetFrom t s ws) ≡ true
   unfolding soundPacket packetCrc writtenCrc
   written-is-sound = simp (eq-eqb (length (packetFrom t s ws)) 32 written-length, eq-eqb (writtenCrc t s ws) (writtenCrc t s ws) refl, takes)
 
-  packet-is-read : readReply (packetFrom t s ws) ≡ packetOf 0 t s ws
-  unfolding readReply
-  packet-is-read =
-      let p = packetFrom t s ws in
-      answer-yes (verdict (readCauses p)) _ _ (eqb-true _ 0 (sound-verdict p ∙ written-is-sound))
-
 -- through the lent room
+module _ (t s : ℕ) (ws room : List ℕ) (a : Accepted t ws room) where
+  not-refused : writeVerdict t (length ws) (length room) ≡ 0
+  not-refused = sym (settled-refusal (writeVerdict t (length ws) (length room)) 32) ∙ a
+
+  -- no cause of the writer's holds
+  pub accepted-parts : (writableType t ≡ true) × (length ws ≡ 29) × (32 ≤ length room)
+  accepted-parts =
+      let k = spared (writeCauses t (length ws) (length room)) refl not-refused in
+      (not-false (writableType t) (k .0), eqb-true (length ws) 29 (not-false (eqb (length ws) 29) (k .1 .0)), ltb-false (length room) 32 (k .1 .1 .0))
+
+  -- what is left in the room is the packet
+  pub written-packet : written t s ws room ≡ packetFrom t s ws
+  unfolding writeRoom
+  written-packet =
+      let p = packetFrom t s ws in
+      let n = written-length t s ws (accepted-parts .0) (accepted-parts .1) in
+      ap (take 32) (answer-yes _ _ _ not-refused ∙ put-fits p 0 room (omega (arith, n, accepted-parts)))
+      ∙ take-at p (drop (0 + length p) room) 32 n
+
+  pub left-is-sound : soundPacket (written t s ws room) ≡ true
+  left-is-sound = ap soundPacket written-packet ∙ written-is-sound t s ws (accepted-parts .0) (accepted-parts .1)
+
 pub written-is-read : WrittenIsRead
-unfolding writeRoom
-written-is-read t s ws room takes long fits =
+unfolding readReply
+written-is-read t s ws room a =
     let p = packetFrom t s ws in
-    let accepted : writeVerdict t (length ws) (length room) ≡ 0 = simp (takes, eq-eqb (length ws) 29 long, le-ltb (length room) 32 fits) in
-    ap (λ (x : List ℕ). readReply (take 32 x)) (answer-yes _ _ _ accepted ∙ put-fits p 0 room (omega arith))
-    ∙ ap readReply (take-at p (drop (0 + length p) room) 32 (written-length t s ws takes long))
-    ∙ packet-is-read t s ws takes long
+    let sound = written-is-sound t s ws (accepted-parts t s ws room a .0) (accepted-parts t s ws room a .1) in
+    ap readReply (written-packet t s ws room a) ∙ answer-yes (verdict (readCauses p)) _ _ (eqb-true _ 0 (sound-verdict p ∙ sound))
 
 pub sound-is-written : SoundIsWritten
 unfolding soundPacket packetCrc writtenCrc

@@ -1,17 +1,25 @@
 -- FORMAT, "Health packets" and "The three demands": what the writer writes the reader gives back, and a sound packet is what the writer makes of its parts.
-use Prim.Native.Nat.{ℕ, _≤_}
+use Prim.Native.Nat.{ℕ}
 use mathlib.Core.Path.{_≡_}
 use mathlib.Core.Bool.{true}
 use mathlib.Core.List.{List}
 use lib.ListN.{length, take}
+use Rattle.base.specs.Size.{packetWidth}
 use Rattle.health.specs.Packet.{packetType, packetTime, packetWords, soundPacket}
 use Rattle.health.specs.Reading.{packetOf, readReply}
-use Rattle.health.specs.Writing.{writableType, packetFrom, writeRoom}
+use Rattle.health.specs.Writing.{packetFrom, writeReply, writeRoom}
 
--- the first 32 words of the room are read with the type t, the time s and the 29 words, for every type that the writer takes
+-- the writer accepts a packet of the type t with these words, in this room
+abbrev pub Accepted : ℕ → List ℕ → List ℕ → Type 0
+Accepted t ws room = writeReply t (length ws) (length room) .refusal ≡ 0
+
+-- what it leaves in the room then: the packet of the type t, the time s and these words
+abbrev pub written : ℕ → ℕ → List ℕ → List ℕ → List ℕ
+written t s ws room = take packetWidth (writeRoom t s ws room)
+
+-- a written packet is read with its type, time and words
 abbrev pub WrittenIsRead : Type 0
-WrittenIsRead = (t s : ℕ) (ws room : List ℕ) → writableType t ≡ true → length ws ≡ 29 → 32 ≤ length room
-    → readReply (take 32 (writeRoom t s ws room)) ≡ packetOf 0 t s ws
+WrittenIsRead = (t s : ℕ) (ws room : List ℕ) → Accepted t ws room → readReply (written t s ws room) ≡ packetOf 0 t s ws
 
 -- every sound packet is one that the writer makes
 abbrev pub SoundIsWritten : Type 0

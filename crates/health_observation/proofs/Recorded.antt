@@ -1,24 +1,24 @@
 -- An observation is the record of the words that were read.
 use mathlib.Core.Path.{_≡_}
 use mathlib.Core.List.{List}
-use Prim.Native.Nat.{ℕ, _-_, _/_, _%_}
+use Prim.Native.Nat.{ℕ, _-_, _/_}
 use lib.ListN.{getD, take, drop}
-use Rattle.base.specs.Number.{highByte, bitSet}
+use Rattle.base.specs.Number.{highByte, lowByte, bitSet}
 use Rattle.health_observation.specs.declared.Mode.{Mode}
 use Rattle.health_observation.specs.declared.Observed.{Observed}
 use Rattle.health_observation.specs.Observation.{modeOf, observationOf}
 
 -- the record of these words
-abbrev recorded : ℕ → ℕ → ℕ → ℕ → ℕ → Mode → ℕ → ℕ → ℕ → List ℕ → List ℕ → Observed
-recorded t crc time frame times mode word flags map others bins =
+abbrev recorded : ℕ → ℕ → ℕ → ℕ → ℕ → ℕ → Mode → ℕ → ℕ → ℕ → List ℕ → List ℕ → Observed
+recorded t crc time frame period exposure mode word flags map others bins =
     record {
       refusal = 0;
       camera = t - 3;
       crc = crc;
       time = time;
       frame = frame;
-      period = times / 256;
-      exposure = times % 256;
+      period = period;
+      exposure = exposure;
       mode = mode;
       «mode_word» = word;
       «rice_en» = bitSet flags 15;
@@ -31,8 +31,8 @@ recorded t crc time frame times mode word flags map others bins =
       bins = bins;
     }
 
-pub words-make-observation : (p : List ℕ) {t crc time frame times word flags map : ℕ} {mode : Mode} {others bins : List ℕ}
-    → t ≡ getD p 0 0 → crc ≡ getD p 1 0 → time ≡ getD p 2 0 → frame ≡ getD p 3 0 → times ≡ getD p 4 0 → word ≡ getD p 5 0
+pub words-make-observation : (p : List ℕ) {t crc time frame period exposure word flags map : ℕ} {mode : Mode} {others bins : List ℕ}
+    → t ≡ getD p 0 0 → crc ≡ getD p 1 0 → time ≡ getD p 2 0 → frame ≡ getD p 3 0 → period ≡ highByte (getD p 4 0) → exposure ≡ lowByte (getD p 4 0) → word ≡ getD p 5 0
     → flags ≡ getD p 6 0 → map ≡ getD p 7 0 → mode ≡ modeOf (highByte word) → others ≡ take 8 (drop 8 p) → bins ≡ drop 16 p
-    → recorded t crc time frame times mode word flags map others bins ≡ observationOf p
-words-make-observation p a b c d e f g h i j k = simp (a, b, c, d, e, f, g, h, i, j, k)
+    → recorded t crc time frame period exposure mode word flags map others bins ≡ observationOf p
+words-make-observation p a b c d e f g h i j k l = simp (a, b, c, d, e, f, g, h, i, j, k, l)

@@ -4,6 +4,7 @@ use health::packet;
 ghost use mathlib.Core.Path.{_≡_};
 ghost use Prim.Native.Nat.{_≤_};
 ghost use lib.ListN.{length, getD};
+ghost use Rattle.base.specs.Size.{packetWidth};
 ghost use Rattle.base.specs.Refusal.{verdict};
 ghost use Rattle.health_observation.specs.Observation.{modeOf, isObservation, observationCauses, refused, observationOf, observationReply};
 
@@ -95,7 +96,7 @@ fn refused(number: u8) -> Observed
 }
 
 fn observation_fields(packet: &[u16]) -> Observed
-    requires { ⌜ (length (now packet) ≡ 32) × (3 ≤ getD (now packet) 0 0) ⌝ }
+    requires { ⌜ (length (now packet) ≡ packetWidth) × (3 ≤ getD (now packet) 0 0) ⌝ }
     ensures { λ r. ⌜ r ≡ observationOf (now (packet .entry)) ⌝ }
 {
     let times = base_room::word_at(packet, Words(4));

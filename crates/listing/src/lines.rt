@@ -87,7 +87,7 @@ pub fn frames_and_strays(out: Out, page: &mut [u8; PAGE], words: &[u16], sync: u
     loop {
         let piece = pieces::next(words, sync, Words(at));
         match piece {
-            Piece::Whole(place, framed, next) => {
+            Piece::Frame(place, framed, next) => {
                 said = frame(said, page, place, framed);
                 at = next.0;
             }

@@ -2,6 +2,7 @@
 // say is the library's.
 mod lines;
 
+use base::Bytes;
 use base::Words;
 use base::limit;
 use libc::STDERR_FILENO;
@@ -13,10 +14,10 @@ ghost use Prim.Native.Nat.{_≤_};
 ghost use lib.ListN.{length};
 
 // the sync word, and a recording at the limit
-const WORDS: usize = 1 + limit::LISTING_RECORDING.0;
+const WORDS: Words = Words(1 + limit::LISTING_RECORDING.0);
 
 // room for these, and one byte more by which a longer input shows
-const ROOM: usize = 2 * WORDS + 1;
+const ROOM: Bytes = Bytes(2 * WORDS.0 + 1);
 
 // All lines, for words of which the first is the sync word.
 fn list(out: Out, page: &mut [u8; PAGE], words: &[u16]) -> Out
@@ -32,7 +33,7 @@ fn list(out: Out, page: &mut [u8; PAGE], words: &[u16]) -> Out
 
 // The answer to an input.
 fn answer(out: Out, page: &mut [u8; PAGE], bytes: &[u8]) -> Out {
-    let mut words = [0u16; WORDS];
+    let mut words = [0u16; WORDS.0];
     let reply = program_input::words(bytes, limit::LISTING_RECORDING, &mut words);
     if reply.refusal != 0 {
         return lines::refused(out, page, reply.refusal);
@@ -47,7 +48,7 @@ fn complaint(bytes: &[u8]) {
 }
 
 fn main() {
-    let mut bytes = [0u8; ROOM];
+    let mut bytes = [0u8; ROOM.0];
     let taken = program_reading::take(STDIN_FILENO, &mut bytes);
     if taken.failed {
         complaint(b"listing: standard input cannot be read\n");

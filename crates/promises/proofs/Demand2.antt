@@ -1,25 +1,58 @@
 -- Demand 2 is the crates' own laws.
-use Rattle.chunk_laws.proofs.Written.{written-alone, written-followed}
+use Rattle.chunk_laws.proofs.Skipped.{skipped-by-place}
+use Rattle.chunk_laws.proofs.Listed.{places-are-the-list}
+use Rattle.chunk_laws.proofs.Answers.{check-tells, search-tells}
+use Rattle.chunk_laws.proofs.Written.{written-alone, written-in-rows}
+use Rattle.chunk_outline.proofs.Longest.{runs-are-longest, only-runs}
 use Rattle.parity_laws.proofs.SingleFlip.{written-is-sound, one-flip-is-repaired, arrived-hold}
-use Rattle.health_laws.proofs.RoundTrip.{written-is-read}
-use Rattle.command_laws.proofs.ReadBack.{given-back, accepted-alike}
-use Rattle.reel_laws.proofs.Fits.{written-is-accepted, accepted-is-written, old-index-is-refused}
+use Rattle.health_laws.proofs.RoundTrip.{written-is-read, sound-is-written}
+use Rattle.health_laws.proofs.Fields.{observation-is-read, checksums-are-read, upsets-are-read}
+use Rattle.health_laws.proofs.Modes.{modes}
+use Rattle.health_laws.proofs.Lasts.{found-is-last}
+use Rattle.health_laws.proofs.Recordings.{last-in-science, none-in-science, last-in-health, none-in-health}
+use Rattle.command_laws.proofs.ReadBack.{given-back, accepted-alike, judged-alike}
+use Rattle.command_laws.proofs.WrittenAgain.{written-alike}
 use Rattle.frame_laws.proofs.Written.{comes-back}
+use Rattle.frame_laws.proofs.Local.{frames-local, stray-after-gap}
+use Rattle.frame_laws.proofs.Pieces.{says}
+use Rattle.reel_laws.proofs.Fits.{written-is-accepted, recording-comes-back, accepted-is-written, old-index-is-refused}
 use Rattle.promises.specs.Demand2.{Demand2}
 
 pub demand-2 : Demand2
 demand-2 =
     record {
+      skipped = skipped-by-place;
+      places = places-are-the-list;
+      check = check-tells;
+      search = search-tells;
       chunk = written-alone;
-      chunks = written-followed;
-      packet = written-is-read;
+      chunks = written-in-rows;
+      runs = runs-are-longest;
+      onlyRuns = only-runs;
       unit = written-is-sound;
       flip = one-flip-is-repaired;
+      packet = written-is-read;
+      packets = sound-is-written;
+      observation = observation-is-read;
+      checksums = checksums-are-read;
+      upsets = upsets-are-read;
+      modes = modes;
+      found = found-is-last;
+      lastInScience = last-in-science;
+      noneInScience = none-in-science;
+      lastInHealth = last-in-health;
+      noneInHealth = none-in-health;
       command = given-back;
-      commands = accepted-alike;
+      accepted = accepted-alike;
+      judged = judged-alike;
+      rewritten = written-alike;
+      frame = comes-back;
+      arrived = arrived-hold;
+      local = frames-local;
+      stray = stray-after-gap;
+      pieces = says;
       reel = written-is-accepted;
+      recording = recording-comes-back;
       reels = accepted-is-written;
       index = old-index-is-refused;
-      frame = comes-back;
-      units = arrived-hold;
     }

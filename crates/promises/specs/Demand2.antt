@@ -1,33 +1,85 @@
 -- FORMAT, "The three demands", the second: each call does what the rules say, the readers give back what the writers write, and one flipped bit anywhere
--- in a written unit is found and put right. That each call does what the rules say is its contract; these are the round trips and the single flip.
-use Prim.Native.Nat.{ℕ}
-use mathlib.Core.Path.{_≡_}
-use mathlib.Core.Bool.{true}
-use mathlib.Core.List.{List}
-use Rattle.chunk_laws.specs.Written.{accepted, Alone, Followed}
-use Rattle.parity_laws.specs.Units.{WrittenIsSound, OneFlipIsRepaired, ArrivedHold}
-use Rattle.health_laws.specs.Written.{WrittenIsRead}
-use Rattle.command_laws.specs.Agree.{GivenBack, AcceptedAlike}
-use Rattle.reel_laws.specs.Fits.{WrittenIsAccepted, AcceptedIsWritten, OldIndexIsRefused}
+-- in a written unit is found and put right. That each call does what its definition says is the tie of `Demand1`. Here stands what the definitions amount
+-- to, of what the calls reply and leave in the room.
+use Rattle.chunk_laws.specs.Outside.{SkippedByPlace}
+use Rattle.chunk_laws.specs.Listed.{PlacesAreTheList}
+use Rattle.chunk_laws.specs.Answers.{CheckTells, SearchTells}
+use Rattle.chunk_laws.specs.Written.{WrittenAlone, WrittenInRows}
+use Rattle.chunk_outline.specs.Runs.{RunsAreLongest, OnlyRuns}
+use Rattle.parity_laws.specs.Units as units
+use Rattle.health_laws.specs.Written.{WrittenIsRead, SoundIsWritten}
+use Rattle.health_laws.specs.Fields.{ObservationIsRead, ChecksumsAreRead, UpsetsAreRead}
+use Rattle.health_laws.specs.Modes.{Modes}
+use Rattle.health_laws.specs.Last.{FoundIsLast}
+use Rattle.health_laws.specs.Recordings.{LastInScience, NoneInScience, LastInHealth, NoneInHealth}
+use Rattle.command_laws.specs.Agree.{GivenBack, AcceptedAlike, JudgedAlike, WrittenAlike}
 use Rattle.frame_laws.specs.Written.{FramesComeBack}
+use Rattle.frame_laws.specs.Local.{FramesLocal, StrayAfterGap}
+use Rattle.frame_laws.specs.Pieces.{PiecesSaid}
+use Rattle.reel_laws.specs.Fits.{WrittenIsAccepted, RecordingComesBack, AcceptedIsWritten, OldIndexIsRefused}
 
 pub record Demand2 : Type 0 where
-  -- a written chunk, alone and with another after it, is listed with its kind, camera and payload
-  pub chunk : (sync k c : ℕ) (payload : List ℕ) → accepted k c payload ≡ true → Alone sync k c payload
-  pub chunks : (sync k c : ℕ) (payload : List ℕ) (k′ c′ : ℕ) (payload′ : List ℕ) → accepted k c payload ≡ true → accepted k′ c′ payload′ ≡ true
-      → Followed sync k c payload k′ c′ payload′
-  -- a written packet is read with its type, time and words
+  -- ---- chunks
+
+  -- the skipped words are those in no listed chunk, by place, and with the words of the listed chunks they are all
+  pub skipped : SkippedByPlace
+  -- a chunk is listed exactly where the list has an entry, and the calls for a place answer what the entry says
+  pub places : PlacesAreTheList
+  -- the header check and the search, by the number and the values of their answers
+  pub check : CheckTells
+  pub search : SearchTells
+  -- what the writer left is given back by the survey, the calls for a place and the register: a chunk alone, and rows of any length
+  pub chunk : WrittenAlone
+  pub chunks : WrittenInRows
+  -- the runs are the longest rows of adjacent chunks of one kind, and no other rows are
+  pub runs : RunsAreLongest
+  pub onlyRuns : OnlyRuns
+  -- ---- parity units
+
+  -- a written unit is sound; one bit of it flipped, in the parity or in the data, is named, and the data come back right
+  pub unit : units.WrittenIsSound
+  pub flip : units.OneFlipIsRepaired
+  -- ---- health packets
+
+  -- a written packet is read with its type, time and words; a sound packet is what the writer makes of its parts
   pub packet : WrittenIsRead
-  -- a written unit, and one flipped bit in it
-  pub unit : WrittenIsSound
-  pub flip : OneFlipIsRepaired
-  -- a written command is read with every field and byte, and the writer accepts exactly what the reader accepts
+  pub packets : SoundIsWritten
+  -- and its field reader gives back the fields that its words say
+  pub observation : ObservationIsRead
+  pub checksums : ChecksumsAreRead
+  pub upsets : UpsetsAreRead
+  -- the mode of an observation is the one that its byte means, by number and values
+  pub modes : Modes
+  -- what is found is the last sound packet of the type: in all words, and in a recording made of written packets
+  pub found : FoundIsLast
+  pub lastInScience : LastInScience
+  pub noneInScience : NoneInScience
+  pub lastInHealth : LastInHealth
+  pub noneInHealth : NoneInHealth
+  -- ---- commands
+
+  -- a written command is read with every field and byte
   pub command : GivenBack
-  pub commands : AcceptedAlike
-  -- a written reel is accepted, an accepted reel is the one that is written, and an old index over a new recording is refused
-  pub reel : WrittenIsAccepted
-  pub reels : AcceptedIsWritten
-  pub index : OldIndexIsRefused
-  -- a written frame comes back, also with one bit flipped in each unit
+  -- the writer accepts exactly what the reader accepts, gives the reader's numbers, and writes again what the reader read
+  pub accepted : AcceptedAlike
+  pub judged : JudgedAlike
+  pub rewritten : WrittenAlike
+  -- ---- frames
+
+  -- a written frame comes back, also with one bit flipped in each of its units
   pub frame : FramesComeBack
-  pub units : ArrivedHold
+  pub arrived : units.ArrivedHold
+  -- a frame is a matter of its own words alone, and a continuation after a skipped word joins nothing and is stray
+  pub local : FramesLocal
+  pub stray : StrayAfterGap
+  -- going through a recording tells its frames and strays, each as what it is, and no others
+  pub pieces : PiecesSaid
+  -- ---- reels
+
+  -- a written reel is accepted, and the recording's own words come back from it
+  pub reel : WrittenIsAccepted
+  pub recording : RecordingComesBack
+  -- an accepted reel is the very one that is written for its recording
+  pub reels : AcceptedIsWritten
+  -- an old index behind a new recording is refused
+  pub index : OldIndexIsRefused

@@ -1,13 +1,14 @@
--- Eleven examples of FORMAT, of the very definitions that the contracts give as replies and rooms.
+-- Eleven examples of FORMAT, of the very definitions to which the calls are tied.
 use Prim.Native.Nat.{ℕ}
 use mathlib.Core.Path.{_≡_}
 use mathlib.Core.Bool.{true, false}
 use mathlib.Core.List.{List, [], _∷_, map}
 use lib.ListN.{getD, replicate}
+use Rattle.base.specs.Refusal.{wrote}
 use Rattle.chunk.specs.Header.{legalSize, legal}
 use Rattle.chunk_reading.specs.Counting.{surveyed, surveyReply}
 use Rattle.crc.specs.Crc.{crcWords}
-use Rattle.parity.specs.Unit.{reply, refused, checkReply, checkRoom, writeRoom}
+use Rattle.parity.specs.Unit.{reply, refused, checkReply, checkRoom, writeReply, writeRoom}
 use Rattle.health.specs.Writing.{packetFrom}
 use Rattle.health_upsets.specs.Upsets.{upset, upsetTable, upsetsReply}
 use Rattle.command.specs.declared.Fields.{Fields}
@@ -37,14 +38,14 @@ patch = record { sequence = 0; «command_type» = 2; qualifier = 0; address = 0;
 
 pub record Examples : Type 0 where
   -- an empty recording has no chunk and 0 skipped; one sync word is 1 skipped
-  pub one : (surveyReply 0x5AF3 [] ≡ surveyed 0 0 0) × (surveyReply 0x5AF3 (0x5AF3 ∷ []) ≡ surveyed 0 0 1)
+  pub one : (sync : ℕ) → (surveyReply sync [] ≡ surveyed 0 0 0) × (surveyReply sync (sync ∷ []) ≡ surveyed 0 0 1)
   -- image sizes 9, 264, 273, 8,184 legal; 0, 8, 265, 272, 8,185 not
   pub two : (map (legalSize 0) (9 ∷ 264 ∷ 273 ∷ 8184 ∷ []) ≡ true ∷ true ∷ true ∷ true ∷ [])
       × (map (legalSize 0) (0 ∷ 8 ∷ 265 ∷ 272 ∷ 8185 ∷ []) ≡ false ∷ false ∷ false ∷ false ∷ false ∷ [])
   -- header word A020h illegal; 8020h legal
   pub three : (legal 0xA020 ≡ false) × (legal 0x8020 ≡ true)
   -- k = 1, data 8000h: parity words 0 and 4 are 8000h, others 0
-  pub four : writeRoom (0x8000 ∷ []) (replicate 9 0xFFFF) ≡ unit 0x8000 0x8000 0x8000
+  pub four : (writeReply 1 9 ≡ wrote 0 9) × (writeRoom (0x8000 ∷ []) (replicate 9 0xFFFF) ≡ unit 0x8000 0x8000 0x8000)
   -- the same data with all parity 0: repaired to 0, word 0 bit 15
   pub five : (checkReply (unit 0 0 0x8000) 1 ≡ reply 0 2 0 15 1) × (checkRoom (unit 0 0 0x8000) (0xFFFF ∷ []) ≡ 0 ∷ [])
   -- k = 1, data 0, parity word 0 = 4000h only: data as they stand

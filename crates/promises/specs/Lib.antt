@@ -1,3 +1,5 @@
+pub mod Ties
+pub mod calls
 pub mod Examples
 pub mod Demand1
 pub mod Demand2

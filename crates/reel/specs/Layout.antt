@@ -3,6 +3,7 @@ use Prim.Native.Nat.{ℕ, _+_, _*_, _/_}
 use mathlib.Core.List.{List, [], _∷_, _++_}
 use lib.ListN.{length}
 use Rattle.base.specs.Limit.{reelLimit}
+use Rattle.base.specs.Size.{parityWidth}
 use Rattle.crc.specs.Crc.{crcWords, crcStart}
 use Rattle.chunk.specs.declared.Entry.{Entry}
 use Rattle.chunk.specs.Reading.{reading}
@@ -51,9 +52,9 @@ reelOf sync ws = ws ++ tailWords (length ws) (reading sync ws)
 abbrev pub reelWords : ℕ → ℕ → ℕ
 reelWords n count = n + entryWidth * count + trailerWidth
 
--- the shortest chunk: two header words, and an image payload of 9
+-- the shortest chunk has 11 words: two header words, and a unit with one data word
 abbrev pub shortestChunk : ℕ
-shortestChunk = 11
+shortestChunk = 2 + parityWidth + 1
 
 -- the shortest reel and the longest, 38,728 words: a recording at the limit, all of it in shortest chunks
 abbrev pub reelLeast : ℕ

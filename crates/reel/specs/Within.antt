@@ -6,4 +6,4 @@ use Rattle.reel.specs.Reading.{countOf, nOf, crcOf, editionOf}
 
 -- what the four words of the trailer say
 abbrev pub trailerOf : List ℕ → Trailer
-trailerOf r = record { count = countOf r; n = nOf r; crc = crcOf r; edition = editionOf r }
+trailerOf r = record { count = countOf r; n = record { 0 = nOf r }; crc = crcOf r; edition = editionOf r }

@@ -12,18 +12,19 @@ ghost use Rattle.reel.specs.Layout.{entryWidth, entryWords, indexWords};
 ghost use Rattle.reel.specs.Reading.{sameWords};
 
 // Whether an entry stands at a place of the index.
-fn entry_stands(index: &[u16], at: usize, entry: Entry) -> bool
-    ensures { λ r. ⌜ r ≡ sameWords (take entryWidth (drop at (now (index .entry)))) (entryWords entry) ⌝ }
+fn entry_stands(index: &[u16], at: Words, entry: Entry) -> bool
+    ensures { λ r. ⌜ r ≡ sameWords (take entryWidth (drop (at .0) (now (index .entry)))) (entryWords entry) ⌝ }
 {
+    let i = at.0;
     if index.len() < layout::ENTRY.0 {
         return false;
     }
-    if index.len() - layout::ENTRY.0 < at {
+    if index.len() - layout::ENTRY.0 < i {
         return false;
     }
     let position = entry.position.0;
     let header = entry.header;
-    (trailer::wide(index[at]) == position) & (index[at + 1] == header)
+    (trailer::wide(index[i]) == position) & (index[i + 1] == header)
 }
 
 // Whether these words are the entries of a recording.
@@ -37,7 +38,7 @@ pub fn agrees(recording: &[u16], sync: u16, index: &[u16]) -> bool
         let Found::Chunk(entry, next) = found else {
             return at == index.len();
         };
-        if !entry_stands(index, at, entry) {
+        if !entry_stands(index, Words(at), entry) {
             return false;
         }
         from = next.0;

@@ -41,7 +41,7 @@ pub fn read(reel: &[u16], sync: u16) -> Reel
     if !trailer::agrees(reel, trailer) {
         return refused(refusal::REEL);
     }
-    let n = trailer::wide(trailer.n);
+    let n = trailer.n.0;
     if limit::REEL_RECORDING.0 < n {
         return refused(refusal::REEL);
     }
@@ -52,6 +52,6 @@ pub fn read(reel: &[u16], sync: u16) -> Reel
     Reel {
         refusal: 0,
         n: Words(n),
-        entries: trailer::wide(trailer.count),
+        entries: trailer.count,
     }
 }

@@ -1,16 +1,16 @@
--- The writer and the reader fit, both ways.
+-- The writer and the reader fit, both ways; and an index is accepted behind no other recording.
 use mathlib.Core.Path.{_≡_, refl, sym, ap, ap₂, _∙_}
 use mathlib.Core.Bool.{Bool, true, false, cond, _&&_}
 use mathlib.Core.List.{List, [], _∷_, _++_}
 use Prim.Native.Nat.{ℕ, _+_, _*_, _-_, _≤_}
 use native.Mathlib.Omega.{arith}
 use lib.ListN.{length, getD, take, drop, take-append-drop, length-drop}
-use lib.Seq.{take-at, take-add, drop-drop, take-all, length-take-le}
+use lib.Seq.{take-at, take-add, drop-at, drop-drop, take-all, length-take-le}
 use lib.Dec.{leb, eqb}
-use borrow.Author.Tests.{eqb-true, leb-true, not-false}
+use borrow.Author.Tests.{eqb-true, eqb-false, leb-true, le-ltb, not-false}
 use Rattle.base.proofs.Booleans.{and-left, and-right}
 use Rattle.base.specs.Limit.{reelLimit}
-use Rattle.base.specs.Refusal.{wrongReel, verdict, answer, settled, wrote}
+use Rattle.base.specs.Refusal.{wrongReel, noRoom, verdict, answer, settled}
 use Rattle.base_room.specs.Room.{put}
 use Rattle.base.specs.declared.Written.{Written}
 use Rattle.base.proofs.Refused.{spared, answer-yes, settled-refusal}
@@ -23,39 +23,57 @@ use Rattle.reel.specs.Reading.{sameWords, countOf, nOf, crcOf, editionOf, recor
 use Rattle.reel.proofs.Same.{same-true, same-refl}
 use Rattle.reel.proofs.OnReel.{index-length, two-words}
 use Rattle.reel.proofs.Fewest.{few-chunks}
-use Rattle.reel.proofs.Reading.{agrees-length, accepted-read, not-accepted-refused}
-use Rattle.reel_writing.specs.Writing.{reelLength, writeCauses, writeReply, writeRoom}
-use Rattle.reel_writing.proofs.Writing.{accepted-short, accepted-fits}
-use Rattle.reel_laws.specs.Fits.{WrittenIsAccepted, AcceptedIsWritten, OldIndexIsRefused}
-use Rattle.reel_laws.proofs.Tail.{tailed, tailed-length, tailed-count, tailed-n, tailed-accepted}
+use Rattle.reel.proofs.Reading.{agrees-length, accepted-read, not-accepted-refused, trailer-not-accepted}
+use Rattle.reel_writing.specs.Writing.{reelLength, writeCauses, writeReply}
+use Rattle.reel_writing.proofs.Writing.{room-compared, accepted-short, accepted-fits, accepted-written}
+use Rattle.reel_laws.specs.Fits.{written, writtenTail, WrittenIsAccepted, RecordingComesBack, AcceptedIsWritten, OldIndexIsRefused}
+use Rattle.reel_laws.proofs.Tail.{tailed, tailed-length, tailed-count, tailed-n, other-length-disagrees, own-accepted}
 
--- no reel of a recording within the limit is outside the reader's lengths
-reel-within : (sync : ℕ) (ws r : List ℕ) → length ws ≤ reelLimit → length r ≡ reelLength sync ws → (reelLeast ≤ length r) × (length r ≤ reelMost)
-reel-within sync ws r h e = (omega arith, omega (arith, few-chunks sync ws))
+-- no recording within the limit, with the entries of one within the limit, is outside the reader's lengths
+reel-within : (sync : ℕ) (ws other r : List ℕ) → length ws ≤ reelLimit → length other ≤ reelLimit → length r ≡ reelWords (length other) (length (reading sync ws))
+    → (reelLeast ≤ length r) × (length r ≤ reelMost)
+reel-within sync ws other r h l e = (omega arith, omega (arith, few-chunks sync ws))
 
 reel-read : (sync : ℕ) (ws : List ℕ) → length ws ≤ reelLimit → readReply sync (reelOf sync ws) ≡ told 0 (length ws) (length (reading sync ws))
 unfolding reelOf
 reel-read sync ws h =
     let es : List Entry = reading sync ws in
-    let b = reel-within sync ws (tailed ws es) h (tailed-length ws es) in
-    sym (accepted-read sync (tailed ws es) (b .0) (b .1) (length ws) (length es) (sym (tailed-n ws es)) (sym (tailed-count ws es))
-    (tailed-accepted ws es sync h ∙ same-refl (indexWords es)))
+    let r : List ℕ = tailed ws (length ws) es in
+    let b = reel-within sync ws ws r h h (tailed-length ws (length ws) es) in
+    sym (accepted-read sync r (b .0) (b .1) (length ws) (length es) (sym (tailed-n ws (length ws) es)) (sym (tailed-count ws (length ws) es))
+    (own-accepted ws es sync h ∙ same-refl (indexWords es)))
 
-settled-length : (v n : ℕ) → v ≡ 0 → settled v n .length .0 ≡ n
-unfolding settled
-settled-length v n e = ap (λ (x : Written). x .length .0) (answer-yes v (λ x. wrote x 0) (wrote 0 n) e)
+-- ---- what the writer leaves
+
+module _ (sync : ℕ) (ws room : List ℕ) (z : writeReply sync ws (length room) .refusal ≡ 0) where
+  short : length ws ≤ reelLimit
+  short = accepted-short sync ws room (writeReply sync ws (length room)) refl z
+
+  length-replied : writeReply sync ws (length room) .length .0 ≡ reelLength sync ws
+  unfolding writeReply settled
+  length-replied = ap (λ (x : Written). x .length .0) (answer-yes _ _ _ (sym (settled-refusal (verdict (writeCauses sync ws (length room))) (reelLength sync ws)) ∙ z))
+
+  written-is-reel : written sync ws room ≡ reelOf sync ws
+  unfolding reelOf
+  written-is-reel =
+      let r : List ℕ = reelOf sync ws in
+      let l : length r ≡ reelLength sync ws = tailed-length ws (length ws) (reading sync ws) in
+      let fits = accepted-fits sync ws room (writeReply sync ws (length room)) refl z in
+      ap₂ take length-replied (sym (accepted-written sync ws room (writeReply sync ws (length room)) refl z (put r 0 room) refl) ∙ put-fits r 0 room (omega arith))
+      ∙ take-at r (drop (0 + length r) room) (reelLength sync ws) l
+
+  tail-is-tail : writtenTail sync ws room ≡ tailWords (length ws) (reading sync ws)
+  unfolding reelOf
+  tail-is-tail = ap (drop (length ws)) written-is-reel ∙ drop-at ws (tailWords (length ws) (reading sync ws)) (length ws) refl
 
 pub written-is-accepted : WrittenIsAccepted
-unfolding writeReply writeRoom reelOf
-written-is-accepted sync ws room z =
-    let v : ℕ = verdict (writeCauses sync ws (length room)) in
-    let n : ℕ = reelLength sync ws in
-    let e : v ≡ 0 = sym (settled-refusal v n) ∙ z in
-    let f : n ≤ length room = accepted-fits sync ws room (writeReply sync ws (length room)) refl z in
-    let l : length (reelOf sync ws) ≡ n = tailed-length ws (reading sync ws) in
-    ap₂ (λ (m : ℕ) (d : List ℕ). readReply sync (take m d)) (settled-length v n e) (answer-yes v (λ x. room) (put (reelOf sync ws) 0 room) e)
-    ∙ ap (readReply sync) (ap (take n) (put-fits (reelOf sync ws) 0 room (omega arith)) ∙ take-at (reelOf sync ws) (drop (0 + length (reelOf sync ws)) room) n l)
-    ∙ reel-read sync ws (accepted-short sync ws room (writeReply sync ws (length room)) refl z)
+written-is-accepted sync ws room z = ap (readReply sync) (written-is-reel sync ws room z) ∙ reel-read sync ws (short sync ws room z)
+
+pub recording-comes-back : RecordingComesBack
+unfolding reelOf
+recording-comes-back sync ws room z =
+    let n : readReply sync (written sync ws room) .n .0 ≡ length ws = ap (λ (x : Reel). x .n .0) (written-is-accepted sync ws room z) in
+    ap₂ take n (written-is-reel sync ws room z) ∙ take-at ws (tailWords (length ws) (reading sync ws)) (length ws) refl
 
 -- ---- what is accepted is what the writer writes
 
@@ -136,11 +154,18 @@ read-number sync r = by-verdict (verdict (readCauses sync r))
 
 pub accepted-is-written : AcceptedIsWritten
 unfolding readReply
-accepted-is-written sync r z =
+accepted-is-written sync r room z fit =
     let e : verdict (readCauses sync r) ≡ 0 = sym (read-number sync r) ∙ z in
     let a : accepted sync r ≡ true = not-false (accepted sync r) (spared (readCauses sync r) refl e .1 .0) in
     let n : readReply sync r .n .0 ≡ nOf r = ap (λ (x : Reel). x .n .0) (answer-yes (verdict (readCauses sync r)) refused (told 0 (nOf r) (countOf r)) e) in
-    (accepted-is-reel sync r a ∙ ap (λ (m : ℕ). reelOf sync (take m r)) (sym n), omega (arith, n, n-within sync r a))
+    let ws : List ℕ = take (readReply sync r .n .0) r in
+    let is : ws ≡ recordingOf r = ap (λ (m : ℕ). take m r) n in
+    let l : length r ≡ reelLength sync ws = sym (ap (reelLength sync) is ∙ ap₂ reelWords (recording-length sync r a) (sym (count-fresh sync r a)) ∙ sym (reel-length sync r a)) in
+    let accepts : writeReply sync ws (length room) .refusal ≡ 0 =
+    ap (λ (x : Written). x .refusal) (sym (room-compared sync ws (length room) (reelLength sync ws) (omega (arith, ap length is, recording-length sync r a, n-within sync r a)) refl))
+    ∙ settled-refusal _ _ ∙ ap (λ (b : Bool). cond b noRoom 0) (le-ltb (length room) (reelLength sync ws) (omega arith))
+    in
+    (accepts, written-is-reel sync ws room accepts ∙ ap (reelOf sync) is ∙ sym (accepted-is-reel sync r a))
 
 -- ---- an old index
 
@@ -153,15 +178,30 @@ index-injective (d ∷ es) [] e = absurd (omega (arith, ap length e))
 index-injective (d ∷ es) (f ∷ fs) e =
     ap₂ (λ (x : Entry) (l : List Entry). x ∷ l) (ap₂ entry (ap (λ (l : List ℕ). getD l 0 0) e) (ap (λ (l : List ℕ). getD l 1 0) e)) (index-injective es fs (ap (drop 2) e))
 
+module _ (sync : ℕ) (ws other : List ℕ) (differ : length other ≡ length ws → reading sync other ≡ reading sync ws → ⊥) (h : length other ≤ reelLimit) where
+  abbrev es : List Entry
+  es = reading sync ws
+
+  -- of the same length: the entries are those of another reading
+  old-entries : length other ≡ length ws → accepted sync (tailed other (length ws) es) ≡ false
+  old-entries same =
+      ap (λ (m : ℕ). accepted sync (tailed other m es)) (sym same) ∙ own-accepted other es sync h ∙ by-test (sameWords (indexWords es) (indexWords (reading sync other))) refl
+    where
+      by-test : (b : Bool) → sameWords (indexWords es) (indexWords (reading sync other)) ≡ b → sameWords (indexWords es) (indexWords (reading sync other)) ≡ false
+      by-test true z = absurd (differ same (sym (index-injective es (reading sync other) (same-true _ _ z))))
+      by-test false z = z
+
+  -- of another length: the trailer tells of the old one
+  old-not-accepted : accepted sync (tailed other (length ws) es) ≡ false
+  old-not-accepted = by-test (eqb (length other) (length ws)) refl
+    where
+      by-test : (b : Bool) → eqb (length other) (length ws) ≡ b → accepted sync (tailed other (length ws) es) ≡ false
+      by-test true z = old-entries (eqb-true (length other) (length ws) z)
+      by-test false z = trailer-not-accepted sync (tailed other (length ws) es) (other-length-disagrees other (length ws) es (eqb-false (length other) (length ws) z))
+
 pub old-index-is-refused : OldIndexIsRefused
-old-index-is-refused sync ws other same h differ =
-    let es : List Entry = reading sync ws in
-    let r : List ℕ = other ++ tailWords (length ws) es in
-    let b = reel-within sync ws r h (ap (λ (m : ℕ). length (other ++ tailWords m es)) (sym same) ∙ tailed-length other es ∙ ap (λ (m : ℕ). reelWords m (length es)) same) in
-    sym (not-accepted-refused sync r (b .0) (b .1) (refused wrongReel) refl (by-test (sameWords (indexWords es) (indexWords (reading sync other))) refl))
-  where
-    by-test : (b : Bool) → sameWords (indexWords (reading sync ws)) (indexWords (reading sync other)) ≡ b → accepted sync (other ++ tailWords (length ws) (reading sync ws)) ≡ false
-    by-test true z = absurd (differ (sym (index-injective (reading sync ws) (reading sync other) (same-true _ _ z))))
-    by-test false z =
-        ap (λ (m : ℕ). accepted sync (other ++ tailWords m (reading sync ws))) (sym same)
-        ∙ tailed-accepted other (reading sync ws) sync (omega arith) ∙ z
+old-index-is-refused sync ws room other z h differ =
+    let r : List ℕ = tailed other (length ws) (reading sync ws) in
+    let b = reel-within sync ws other r (short sync ws room z) h (tailed-length other (length ws) (reading sync ws)) in
+    ap (λ (l : List ℕ). readReply sync (other ++ l)) (tail-is-tail sync ws room z)
+    ∙ sym (not-accepted-refused sync r (b .0) (b .1) (refused wrongReel) refl (old-not-accepted sync ws other differ h))

@@ -13,11 +13,11 @@ ghost use Rattle.chunk.specs.Reading.{reading};
 ghost use Rattle.reel.specs.Layout.{entryWidth, entryWords, indexWords};
 
 // An entry at a place of the room.
-fn put_entry(entry: Entry, room: &mut [u16], at: usize)
+fn put_entry(entry: Entry, room: &mut [u16], at: Words)
     requires { ⌜ entry .position .0 < 65536 ⌝ }
-    ensures { λ _. ⌜ now (room .exit) ≡ put (entryWords entry) at (now (room .entry)) ⌝ }
+    ensures { λ _. ⌜ now (room .exit) ≡ put (entryWords entry) (at .0) (now (room .entry)) ⌝ }
 {
-    base_room::put_words(&[entry.position.0 as u16, entry.header], room, Words(at));
+    base_room::put_words(&[entry.position.0 as u16, entry.header], room, at);
 }
 
 // Writes the entries of a recording into the room behind its n words, and counts them.
@@ -34,7 +34,8 @@ pub fn write(recording: &[u16], sync: u16, room: &mut [u16]) -> usize
         let Found::Chunk(entry, next) = found else {
             return count;
         };
-        put_entry(entry, room, n + layout::ENTRY.0 * count);
+        let at = n + layout::ENTRY.0 * count;
+        put_entry(entry, room, Words(at));
         from = next.0;
         count += 1;
     }

@@ -13,7 +13,7 @@ slice-aggregate-bytes c = sym (length-take-le _ _ (omega arith))
 returns : tie.Need-returns
 returns c =
     let a = c .before .before .before .before .before .before .before .before .before .args in
-    packet-by-causes (a .catalogue) (a .mode) (a .fields) (a .bytes .now) (c .before .before .before .before .before .before .bytes .ensures) (c .before .before .before .before .judge .ensures) (c .before .before .before .header-wrong .ensures) (c .before .before .word-at .ensures) (c .before .cause .ensures)
+    packet-by-causes (a .catalogue) (a .mode) (a .fields) (a .bytes .now) (c .before .before .before .before .before .before .before .before .before .pre .0) (c .before .before .before .before .before .before .bytes .ensures) (c .before .before .before .before .judge .ensures) (c .before .before .before .header-wrong .ensures) (c .before .before .word-at .ensures) (c .before .cause .ensures)
     (c .cause2 .ensures)
 
 pub inspect-spec : {M : Type 1} → statement M

@@ -1,29 +1,29 @@
 -- `command_reading::read` meets its contract: refused at first, or with the whole packet looked at.
-use mathlib.Core.Path.{sym, _∙_}
 use native.Mathlib.Omega.{arith}
-use lib.ListN.{length}
 use borrow.Author.Needs.{needs}
-use Rattle.command.proofs.Verdicts.{total-within}
-use Rattle.command_reading.proofs.Replies.{refused-at-first, read-whole}
+use Rattle.command_reading.proofs.Replies.{asked-within, refused-at-first, read-whole}
 use Rattle.command_reading.proofs.read.Statement.{statement}
 use Rattle.command_reading.proofs.read.Tie as tie
 
 returns : tie.Need-returns
 returns c = refused-at-first _ _ _ (c .before .before .before .asked-wrong .ensures) (c .before .before .first .ensures) (c .before .if1 .taken) _ (c .give .ensures)
 
+sub-more : tie.Need-sub-more
+sub-more c =
+    let b = c .before in
+    let a = b .before .before .before .before .before .args in
+    omega (arith, asked-within (a .catalogue) (a .mode) (a .bytes .now) (b .before .before .asked-wrong .ensures) (b .before .first .ensures) (b .if1 .left))
+
 inspect-requires : tie.Need-inspect-requires
 inspect-requires c κs =
-    let a = c .before .before .before .before .before .args in
-    total-within (c .before .before .asked-wrong .result) (a .catalogue) (length (a .bytes .now)) (sym (c .before .first .ensures) ∙ c .if1 .left)
-
-sub-give : tie.Need-sub-give
-sub-give c =
-    let a = c .before .before .before .before .before .before .args in
-    omega (arith, total-within (c .before .before .before .asked-wrong .result) (a .catalogue) (length (a .bytes .now)) (sym (c .before .before .first .ensures) ∙ c .before .if1 .left))
+    let b = c .before in
+    let a = b .before .before .before .before .before .args in
+    asked-within (a .catalogue) (a .mode) (a .bytes .now) (b .before .before .asked-wrong .ensures) (b .before .first .ensures) (b .if1 .left)
 
 returns-2 : tie.Need-returns-2
 returns-2 c =
-    read-whole _ _ _ (c .before .before .before .before .asked-wrong .ensures) (c .before .before .before .first .ensures) (c .before .before .if1 .left) (c .before .before .before .before .before .fields-in .ensures) (c .before .inspect .ensures) (c .give2 .ensures)
+    let b = c .before .before .before in
+    read-whole _ _ _ (b .before .before .asked-wrong .ensures) (b .before .first .ensures) (b .if1 .left) (b .before .before .before .fields-in .ensures) (c .before .inspect .ensures) (c .give2 .ensures)
 
 pub read-spec : {M : Type 1} → statement M
 read-spec =
@@ -34,7 +34,7 @@ read-spec =
     (λ c κs. search needs)
     (λ c κs. search needs)
     returns
+    sub-more
     inspect-requires
-    sub-give
     (λ c κs. search needs)
     returns-2)

@@ -7,13 +7,13 @@ use Rattle.command_writing.proofs.place.Tie as tie
 returns : tie.Need-returns
 returns c =
     let third = c .before .before in
-    let second = third .before .before .before .before .before in
+    let second = third .before .before .before .before .before .before in
     let first = second .before .before .before .before in
     let low = first .before .before .before in
     let high = low .before in
     let crc = high .before in
     let front = crc .before .before .before in
-    let s = front .before .before .before in
+    let s = front .before .before .before .before in
     command-joined (s .args .fields) (s .args .further .now) (s .args .room .now) (s .pre .2) (front .head .ensures) (crc .before .bytes .ensures) (crc .bytes2 .ensures)
     (high .high-byte .ensures) (low .low-byte .ensures) (first .put-bytes .ensures) (second .put-bytes2 .ensures) (third .put-bytes3 .ensures)
 

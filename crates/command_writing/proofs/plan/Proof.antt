@@ -13,7 +13,8 @@ returns-2 c =
 
 returns-3 : tie.Need-returns-3
 returns-3 c =
-    settled-by-room _ _ _ _ _ (c .before .before .before .before .before .before .asked-wrong .ensures) (c .before .before .before .before .before .first .ensures) (c .before .before .before .before .if1 .left) (c .before .before .before .judge .ensures) (c .before .before .if2 .left) (c .before .cause .ensures) (c .settle3 .ensures)
+    let k = c .before .before .before in
+    settled-by-room _ _ _ _ _ (k .before .before .before .before .asked-wrong .ensures) (k .before .before .before .first .ensures) (k .before .before .if1 .left) (k .before .judge .ensures) (k .if2 .left) (c .before .cause .ensures) (c .settle3 .ensures)
 
 pub plan-spec : {M : Type 1} → statement M
 plan-spec =

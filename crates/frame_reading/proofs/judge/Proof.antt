@@ -28,7 +28,7 @@ returns-2 c =
     let a = c .before .before .before .before .before .before .before in
     c .refused .ensures
     ∙ cut (a .args .sync) (a .args .place .0) (a .args .recording .now) _ (c .before .before .before .before .before .at .ensures)
-    (c .before .before .before .if1 .left) (not-true _ (c .before .if2 .taken))
+    (c .before .before .before .if1 .left) (not-true (c .before .before .before .before .before .at .result .complete) (c .before .if2 .taken))
 
 mul-damaged : tie.Need-mul-damaged
 mul-damaged c = omega (arith, inside c)

@@ -8,7 +8,7 @@ use Rattle.health_last.proofs.packet_at.Statement.{statement}
 use Rattle.health_last.proofs.packet_at.Tie as tie
 
 returns : tie.Need-returns
-returns c = let a = c .before .args in ap (λ (n : ℕ). take n (drop (a .from) (a .words .now))) (add-sub-cancel-left (a .from) 32)
+returns c = let a = c .before .before .args in ap (λ (n : ℕ). take n (drop (a .at .0) (a .words .now))) (add-sub-cancel-left (a .at .0) 32)
 
 pub packet-at-spec : {M : Type 1} → statement M
 packet-at-spec =

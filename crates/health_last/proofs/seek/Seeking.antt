@@ -18,16 +18,7 @@ use Rattle.health_last.specs.declared.Sought.{Sought}
 use Rattle.health_last.specs.declared.Sought.the-variants.{At, Nowhere}
 use Rattle.health_last.specs.Packets.{packetPlaces, chunkPlaces, placesOf, soundOf, later, lastWhere}
 use Rattle.health_last.specs.Last.{inScience}
-
--- ---- the later of two
-
-later-none : (s : Sought) → later s Nowhere ≡ s
-later-none (At p) = refl
-later-none Nowhere = refl
-
-later-assoc : (a b c : Sought) → later (later a b) c ≡ later a (later b c)
-later-assoc (At p) b c = refl
-later-assoc Nowhere b c = refl
+use Rattle.health_last.proofs.Later.{later-none, later-assoc, last-append}
 
 -- ---- one place
 
@@ -44,16 +35,9 @@ module _ (t : ℕ) (ws : List ℕ) (p : ℕ) where
   unfolding soundOf
   own-type h = simp (eq-eqb _ t (type-at ws p ∙ h))
 
+-- ---- a row of packets, from the back
+
 module _ (f : ℕ → Bool) where
-  last-append : (a b : List ℕ) → lastWhere f (a ++ b) ≡ later (lastWhere f b) (lastWhere f a)
-  unfolding lastWhere
-  last-append [] b = sym (later-none (lastWhere f b))
-  last-append (p ∷ a) b =
-      ap (λ (s : Sought). later s (cond (f p) (At (record { 0 = p })) Nowhere)) (last-append a b)
-      ∙ later-assoc (lastWhere f b) (lastWhere f a) (cond (f p) (At (record { 0 = p })) Nowhere)
-
-  -- ---- a row of packets, from the back
-
   row-back : (n from : ℕ) → packetPlaces (suc n) from ≡ packetPlaces n from ++ (from + 32 * n) ∷ []
   unfolding packetPlaces
   row-back zero from = ap (λ (q : ℕ). q ∷ []) (omega arith)
@@ -65,7 +49,7 @@ module _ (f : ℕ → Bool) where
       → lastWhere f (packetPlaces (suc n) from) ≡ cond b (At (record { 0 = from + 32 * n })) (lastWhere f (packetPlaces n from))
   unfolding lastWhere
   from-back n from b e =
-      ap (lastWhere f) (row-back n from) ∙ last-append (packetPlaces n from) ((from + 32 * n) ∷ [])
+      ap (lastWhere f) (row-back n from) ∙ last-append f (packetPlaces n from) ((from + 32 * n) ∷ [])
       ∙ ap (λ (x : Bool). later (cond x (At (record { 0 = from + 32 * n })) Nowhere) (lastWhere f (packetPlaces n from))) e ∙ by-cases b
     where
       by-cases : (b : Bool) → later (cond b (At (record { 0 = from + 32 * n })) Nowhere) (lastWhere f (packetPlaces n from))

@@ -22,7 +22,7 @@ returns c =
     let p = times .before .before .args .packet .now in
     words-make-observation p
     (type-word .word-at4 .ensures) (crc .word-at5 .ensures) (time .word-at6 .ensures) (frame .word-at7 .ensures)
-    (times .word-at .ensures) (word .word-at2 .ensures) (flags .word-at3 .ensures) (c .word-at8 .ensures)
+    (omega (arith, times .word-at .ensures)) (omega (arith, times .word-at .ensures)) (word .word-at2 .ensures) (flags .word-at3 .ensures) (c .word-at8 .ensures)
     (mode .mode-of .ensures) (fills-part 8 8 p _ (omega arith) refl (others .put-words .ensures)) (fills 16 p _ (omega arith) (bins .put-words2 .ensures))
 
 pub observation-fields-spec : {M : Type 1} → statement M

@@ -11,7 +11,14 @@ use borrow.Author.Tests.{eq-eqb, ne-eqb}
 use Rattle.crc.specs.Crc.{crcWords, crcStart}
 use Rattle.reel.specs.Layout.{entryWidth, trailerWidth, edition, pointers, reelCrc, reelWords}
 use Rattle.reel.specs.Reading.{countOf, nOf, crcOf, editionOf, indexOf, trailerAgrees}
+use Rattle.reel.specs.declared.trailer.Trailer.{Trailer}
+use Rattle.reel.specs.Within.{trailerOf}
 use Rattle.reel.proofs.OnReel.{two-words}
+
+-- the trailer by its four words
+pub trailer-told : (r : List ℕ) {count n : ℕ} → count ≡ countOf r → n ≡ nOf r
+    → _≡_ {A = Trailer} (record { count = count; n = record { 0 = n }; crc = crcOf r; edition = editionOf r }) (trailerOf r)
+trailer-told r ec en = ap₂ (λ (x y : ℕ). record { count = x; n = record { 0 = y }; crc = crcOf r; edition = editionOf r }) ec en
 
 module _ (r : List ℕ) (h : length r ≡ reelWords (nOf r) (countOf r)) where
   -- the entries and the trailer's first two words, as they stand

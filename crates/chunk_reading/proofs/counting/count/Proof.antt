@@ -4,7 +4,7 @@ use Prim.Native.Nat.{_-_}
 use native.Mathlib.Omega.{arith}
 use lib.ListN.{length}
 use borrow.Author.Needs.{needs}
-use Rattle.chunk_reading.specs.Counting.{surveyed}
+use Rattle.chunk_reading.specs.Counting.{counts}
 use Rattle.chunk.proofs.Steps.{Next, Last, stepped, ended}
 use Rattle.chunk_reading.proofs.counting.Counted.{Counted, none-counted, chunk-counted, all-chunks, all-skipped}
 use Rattle.chunk_reading.proofs.counting.count.Statement.{statement}
@@ -41,7 +41,7 @@ returns : tie.Need-returns Inv-loop μ-loop
 returns c =
     let l = c .before .before .before in
     let a = l .before .before .args in
-    ap₂ (surveyed 0) (all-chunks (a .sync) (a .words .now) _ _ _ (l .loop .inv) (last c)) (all-skipped (a .sync) (a .words .now) _ _ _ (l .loop .inv) (last c))
+    ap₂ counts (all-chunks (a .sync) (a .words .now) _ _ _ (l .loop .inv) (last c)) (all-skipped (a .sync) (a .words .now) _ _ _ (l .loop .inv) (last c))
 
 add-chunks : tie.Need-add-chunks Inv-loop μ-loop
 add-chunks c = record { fits = omega (arith, step c .ahead, step c .within, step c .end) }

@@ -24,15 +24,15 @@ module _ (s : tie.Start) where
 
   -- the words from the frame's first on, as the code takes them
   abbrev part : List ℕ
-  part = take (length ws - s .args .at) (drop (s .args .at) ws)
+  part = take (length ws - s .args .place .0) (drop (s .args .place .0) ws)
 
   starts-there : startsFrame (s .args .sync) part ≡ true
-  starts-there = ap (startsFrame (s .args .sync)) (to-end (s .args .at) ws) ∙ s .pre
+  starts-there = ap (startsFrame (s .args .sync)) (to-end (s .args .place .0) ws) ∙ s .pre
 
-  part-length : length part ≡ length ws - s .args .at
-  part-length = ap length (to-end (s .args .at) ws) ∙ length-drop (s .args .at) ws
+  part-length : length part ≡ length ws - s .args .place .0
+  part-length = ap length (to-end (s .args .place .0) ws) ∙ length-drop (s .args .place .0) ws
 
-  within : s .args .at + 2 < length ws
+  within : s .args .place .0 + 2 < length ws
   within = omega (arith, longer-than-header (s .args .sync) part starts-there, part-length)
 
 mul-from : tie.Need-mul-from
@@ -49,7 +49,7 @@ measure-requires c κs = starts-there (c .before .before)
 
 shared-slice-read-camera-of : tie.Need-shared-slice-read-camera-of
 shared-slice-read-camera-of c =
-    let s = c .before .before .before .before in
+    let s = c .before .before .before .before .before in
     omega (arith, longer-than-header (s .args .sync) (part s) (starts-there s))
 
 -- where the frame ends
@@ -57,34 +57,34 @@ module _ (c : tie.After-measure) where
   abbrev s : tie.Start
   s = c .before .before .before
 
-  end-there : c .measure .result .end ≡ frameWords (s .args .sync) (part s)
-  end-there = ap (λ (r : Reach). r .end) (c .measure .ensures)
+  end-there : c .measure .result .end .0 ≡ frameWords (s .args .sync) (part s)
+  end-there = ap (λ (r : Reach). r .end .0) (c .measure .ensures)
 
-  end-within : c .measure .result .end ≤ length (part s)
+  end-within : c .measure .result .end .0 ≤ length (part s)
   end-within = omega (arith, end-there, frame-ends-inside (s .args .sync) (part s) (starts-there s))
 
 mul-closes : tie.Need-mul-closes
-mul-closes c = omega (arith, end-within (c .before .before), part-length (s (c .before .before)))
+mul-closes c = omega (arith, end-within (c .before .before .before), part-length (s (c .before .before .before)))
 
 sub-closes : tie.Need-sub-closes
-sub-closes c = end-within (c .before .before)
+sub-closes c = end-within (c .before .before .before)
 
 part-closes-start : tie.Need-part-closes-start
-part-closes-start c = let w = end-within (c .before .before) in search needs
+part-closes-start c = let w = end-within (c .before .before .before) in search needs
 
-add-t9 : tie.Need-add-t9
-add-t9 c =
-    let m = c .before .before .before .before in
+add-past : tie.Need-add-past
+add-past c =
+    let m = c .before .before .before .before .before in
     omega (arith, end-within m, part-length (s m), within (s m))
 
 returns : tie.Need-returns
 returns c =
-    let m = c .before .before .before .before in
+    let m = c .before .before .before .before .before in
     let a = s m .args in
-    ap₂ (λ (f : Frame) (n : ℕ). Piece.Whole (record { 0 = a .at }) f (record { 0 = a .at + n }))
+    ap₂ (λ (f : Frame) (n : ℕ). Piece.Frame (a .place) f (record { 0 = a .place .0 + n }))
     (described-by-reach (a .sync) (part (s m)) (starts-there (s m)) _ _ _ (m .measure .ensures) (c .before .before .camera-of .ensures) (c .closes .ensures)
-    ∙ ap (described (a .sync)) (to-end (a .at) (ws (s m))))
-    (end-there m ∙ ap (frameWords (a .sync)) (to-end (a .at) (ws (s m))))
+    ∙ ap (described (a .sync)) (to-end (a .place .0) (ws (s m))))
+    (end-there m ∙ ap (frameWords (a .sync)) (to-end (a .place .0) (ws (s m))))
 
 pub frame-there-spec : {M : Type 1} → statement M
 frame-there-spec =
@@ -102,5 +102,5 @@ frame-there-spec =
     part-closes-start
     (λ c. search needs)
     (λ c κs. search needs)
-    add-t9
+    add-past
     returns)

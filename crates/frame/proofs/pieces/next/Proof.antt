@@ -1,14 +1,14 @@
 -- `frame::pieces::next` meets its contract: from `at` on the next piece is the one that is asked for.
 use mathlib.Core.Path.{_≡_, refl, sym, ap, _∙_}
-use Prim.Native.Nat.{ℕ, _+_, _-_}
+use Prim.Native.Nat.{ℕ, _-_}
 use native.Mathlib.Omega.{arith}
 use lib.ListN.{length}
 use borrow.Author.Needs.{needs}
 use Rattle.chunk.specs.declared.Entry.{Entry}
-use Rattle.chunk.proofs.Steps.{Next, stepped, past}
+use Rattle.chunk.proofs.Steps.{Next, stepped}
 use Rattle.frame.specs.declared.Piece.{Piece}
 use Rattle.frame.specs.Pieces.{nextPiece}
-use Rattle.frame.proofs.pieces.Stepping.{no-piece, health-passed, frame-next, stray-next, frame-starts}
+use Rattle.frame.proofs.Stepping.{no-piece, health-passed, frame-next, stray-next, frame-starts}
 use Rattle.frame.proofs.pieces.next.Statement.{statement}
 use Rattle.frame.proofs.pieces.next.Tie as tie
 
@@ -43,31 +43,30 @@ module _ (c : tie.After-known-told Inv-loop μ-loop) where
 
 frame-there-requires : tie.Need-frame-there-requires Inv-loop μ-loop
 frame-there-requires c κs =
-    let k = c .before .before .before .before in
+    let k = c .before .before .before .before .before in
     frame-starts (a k .args .sync) (a k .args .words .now) (l k .loop .at) (e k) (q k) (step k) (sym (c .before .starts .ensures) ∙ c .if2 .taken)
 
 returns : tie.Need-returns Inv-loop μ-loop
 returns c =
-    let i = c .before .before .before in
-    let k = i .before .before in
+    let k = c .before .before .before .before .before .before in
     c .frame-there .ensures
-    ∙ sym (frame-next (a k .args .sync) (a k .args .words .now) (l k .loop .at) (e k) (q k) (step k) (sym (i .before .kind-of .ensures) ∙ i .if1 .taken) (sym (c .before .before .starts .ensures) ∙ c .before .if2 .taken))
+    ∙ sym (frame-next (a k .args .sync) (a k .args .words .now) (l k .loop .at) (e k) (q k) (step k) (sym (c .before .before .starts .ensures) ∙ c .before .if2 .taken))
     ∙ l k .loop .inv
 
 returns-2 : tie.Need-returns-2 Inv-loop μ-loop
 returns-2 c =
     let i = c .before .before in
-    let k = i .before .before in
+    let k = i .before .before .before in
     ap (λ (n : ℕ). Piece.Stray (e k .position) (record { 0 = n })) (step k .end)
     ∙ sym (stray-next (a k .args .sync) (a k .args .words .now) (l k .loop .at) (e k) (q k) (step k) (sym (i .before .kind-of .ensures) ∙ i .if1 .taken) (sym (c .before .starts .ensures) ∙ c .if2 .left))
     ∙ l k .loop .inv
 
 loop-less : tie.Need-loop-less Inv-loop μ-loop
-loop-less c = let k = c .before .before in omega (arith, step k .end, step k .ahead, step k .within)
+loop-less c = let k = c .before .before .before in omega (arith, step k .end, step k .ahead, step k .within)
 
 loop-again : tie.Need-loop-again Inv-loop μ-loop
 loop-again c =
-    let k = c .before .before in
+    let k = c .before .before .before in
     sym (health-passed (a k .args .sync) (a k .args .words .now) (l k .loop .at) (e k) (q k) (step k) (λ z. c .if1 .left (c .before .kind-of .ensures ∙ z)))
     ∙ l k .loop .inv
 

@@ -31,25 +31,27 @@ module _ (c : tie.After-word-at2) where
   abbrev a : tie.Start
   a = c .before .before .before .before
 
-  looked : eqb (c .before .kind-of .result) 1 && eqb (c .word-at2 .result) (3 + a .args .camera)
-      ≡ eqb (kind (getD (a .args .words .now) 1 0)) 1 && eqb (packetType (drop 2 (a .args .words .now))) (3 + a .args .camera)
-  looked =
-      ap₂ (λ (x y : ℕ). eqb x 1 && eqb y (3 + a .args .camera)) (c .before .kind-of .ensures ∙ ap kind (c .before .before .word-at .ensures))
-      (c .word-at2 .ensures ∙ sym (getD-drop 2 (a .args .words .now) 0 0))
+  looked : (b : Bool) → not (eqb (c .before .kind-of .result) 1 && eqb (c .word-at2 .result) (3 + a .args .camera)) ≡ b
+      → not (eqb (kind (getD (a .args .words .now) 1 0)) 1 && eqb (packetType (drop 2 (a .args .words .now))) (3 + a .args .camera)) ≡ b
+  looked b t =
+      ap₂ (λ (x y : ℕ). not (eqb x 1 && eqb y (3 + a .args .camera)))
+      (sym (c .before .kind-of .ensures ∙ ap kind (c .before .before .word-at .ensures)))
+      (sym (c .word-at2 .ensures ∙ sym (getD-drop 2 (a .args .words .now) 0 0)))
+      ∙ t
 
 returns : tie.Need-returns
 returns c =
     let a = c .before .before .before .before .before .args in
-    refused (confirmed (a .sync) (a .words .now)) _ (soundPacket (take 32 (drop 2 (a .words .now)))) _
-    (ap not (sym (looked (c .before))) ∙ c .if1 .taken)
+    refused (confirmed (a .sync) (a .words .now)) _ (soundPacket (take 32 (drop 2 (a .words .now)))) _ (looked (c .before) true (c .if1 .taken))
 
 returns-2 : tie.Need-returns-2
 returns-2 c =
     let t = c .before .before .before in
     let w = a t .args .words .now in
-    ap₂ _&&_ (c .before .confirmed .ensures) (c .sound-at .ensures)
+    let s : c .sound-at .result ≡ soundPacket (take 32 (drop 2 w)) = c .sound-at .ensures in
+    ap₂ _&&_ (c .before .confirmed .ensures) s
     ∙ left (confirmed (a t .args .sync) w) (eqb (kind (getD w 1 0)) 1) (soundPacket (take 32 (drop 2 w))) (eqb (packetType (drop 2 w)) (3 + a t .args .camera))
-    (ap not (sym (looked t)) ∙ c .before .before .if1 .left)
+    (looked t false (c .before .before .if1 .left))
 
 pub closes-spec : {M : Type 1} → statement M
 closes-spec =

@@ -11,7 +11,7 @@ use Rattle.frame_reading.proofs.picture.data.Statement.{statement}
 use Rattle.frame_reading.proofs.picture.data.Tie as tie
 
 abbrev Inv-loop : tie.InvT-loop
-Inv-loop words chunks room₀ left₀ at₀ place₀ room left at place = Given words (unitsAlong chunks words) room₀ room left at place
+Inv-loop words chunks room₀ left₀ at₀ place₀ room left at place = Given words (unitsAlong chunks words) room₀ room left (at .0) (place .0)
 
 abbrev μ-loop : tie.MeasureT-loop
 μ-loop words chunks room₀ left₀ at₀ place₀ room left at place = left
@@ -23,52 +23,52 @@ loop-holds c =
 
 -- the chunk of a turn lies within the words
 within : (c : tie.In-loop Inv-loop μ-loop)
-    → (let ws = c .before .before .before .before .args .words .now in c .before .loop .at + 2 + size (getD ws (c .before .loop .at + 1) 0) ≤ length ws)
+    → (let ws = c .before .before .before .before .args .words .now in c .before .loop .at .0 + 2 + size (getD ws (c .before .loop .at .0 + 1) 0) ≤ length ws)
 within c = inside _ _ _ (c .before .loop .inv .within) (c .loop-test .taken)
 
 add-from : tie.Need-add-from Inv-loop μ-loop
-add-from c = omega (arith, within c)
+add-from c = omega (arith, within (c .before))
 
 add-size-of : tie.Need-add-size-of Inv-loop μ-loop
-add-size-of c = omega (arith, within c)
+add-size-of c = omega (arith, within (c .before))
 
 mul-size-of : tie.Need-mul-size-of Inv-loop μ-loop
-mul-size-of c = omega (arith, within c)
+mul-size-of c = omega (arith, within (c .before))
 
 shared-slice-read-size-of : tie.Need-shared-slice-read-size-of Inv-loop μ-loop
-shared-slice-read-size-of c = omega (arith, within (c .before))
+shared-slice-read-size-of c = omega (arith, within (c .before .before))
 
 add-to : tie.Need-add-to Inv-loop μ-loop
-add-to c = omega (arith, within (c .before .before .before), c .before .size-of .ensures)
+add-to c = omega (arith, within (c .before .before .before .before), c .before .size-of .ensures)
 
 mul-join : tie.Need-mul-join Inv-loop μ-loop
-mul-join c = omega (arith, within (c .before .before .before))
+mul-join c = omega (arith, within (c .before .before .before .before))
 
 part-join-end : tie.Need-part-join-end Inv-loop μ-loop
-part-join-end c = let w = within (c .before .before .before) in search needs
+part-join-end c = let w = within (c .before .before .before .before) in search needs
 
 -- where the size of a turn's chunk is read
-abbrev sized : tie.After-struct-known2 Inv-loop μ-loop → tie.After-size-of Inv-loop μ-loop
-sized c = c .before .before .before .before .before .before .before
+abbrev sized : tie.After-struct-known4 Inv-loop μ-loop → tie.After-size-of Inv-loop μ-loop
+sized c = c .before .before .before .before .before .before .before .before
 
-add-place : tie.Need-add-place Inv-loop μ-loop
-add-place c =
+add-past : tie.Need-add-past Inv-loop μ-loop
+add-past c =
     let t = sized c in
-    let l = t .before .before .before in
-    omega (arith, room-left _ _ _ _ _ _ _ (l .loop .inv) (t .before .before .loop-test .taken) _ (ap (λ (n : ℕ). l .loop .at + 2 + n) (t .size-of .ensures)) _ (c .before .before .before .join .ensures .0))
+    let l = t .before .before .before .before in
+    omega (arith, room-left _ _ _ _ _ _ _ (l .loop .inv) (t .before .before .before .loop-test .taken) _ (ap (λ (n : ℕ). l .loop .at .0 + 2 + n) (t .size-of .ensures)) _ (c .before .before .before .before .join .ensures .0))
 
 sub-left : tie.Need-sub-left Inv-loop μ-loop
-sub-left c = omega (arith, sized c .before .before .loop-test .taken)
+sub-left c = omega (arith, sized c .before .before .before .loop-test .taken)
 
 loop-less : tie.Need-loop-less Inv-loop μ-loop
-loop-less c = omega (arith, sized c .before .before .loop-test .taken)
+loop-less c = omega (arith, sized c .before .before .before .loop-test .taken)
 
 loop-again : tie.Need-loop-again Inv-loop μ-loop
 loop-again c =
     let t = sized c in
-    let l = t .before .before .before in
-    chunk-given _ _ _ _ _ _ _ (l .loop .inv) (t .before .before .loop-test .taken) _ (ap (λ (n : ℕ). l .loop .at + 2 + n) (t .size-of .ensures))
-    _ (c .before .before .before .join .ensures .0) _ (c .before .before .before .join .ensures .1)
+    let l = t .before .before .before .before in
+    chunk-given _ _ _ _ _ _ _ (l .loop .inv) (t .before .before .before .loop-test .taken) _ (ap (λ (n : ℕ). l .loop .at .0 + 2 + n) (t .size-of .ensures))
+    _ (c .before .before .before .before .join .ensures .0) _ (c .before .before .before .before .join .ensures .1)
 
 returns : tie.Need-returns Inv-loop μ-loop
 returns c = all-given _ _ _ _ _ _ _ (c .before .loop .inv) (c .loop-test .left)
@@ -91,7 +91,7 @@ data-spec =
     (λ c. search needs)
     part-join-end
     (λ c κs. search needs)
-    add-place
+    add-past
     sub-left
     loop-less
     loop-again

@@ -13,7 +13,8 @@ returns-2 c =
     let crc = put .before .before .before in
     let planned = crc .before .before .before in
     let e = planned .before .before .plan .ensures in
-    (e, stored _ _ _ _ e (planned .if1 .left) (crc .before .words .ensures) (crc .words2 .ensures) (put .put-joined .ensures))
+    let a = planned .before .before .before .before .before .args in
+    (e, stored (a .packet-type) (a .time) (a .words .now) (a .room .now) e (planned .if1 .left) (crc .before .words .ensures) (crc .words2 .ensures) (put .put-joined .ensures))
 
 pub write-packet-spec : {M : Type 1} → statement M
 write-packet-spec =

@@ -2,7 +2,6 @@
 use mathlib.Core.Path.{sym, ap, _∙_}
 use Prim.Native.Nat.{ℕ, _/_, _+_}
 use borrow.Author.Needs.{needs}
-use Rattle.chunk.specs.Reading.{entry}
 use Rattle.health_last.specs.Packets.{packetPlaces, soundOf, lastWhere}
 use Rattle.health_last.proofs.seek.Seeking.{no-packets, chunk-packets}
 use Rattle.health_last.proofs.seek.in_chunk.Statement.{statement}
@@ -11,18 +10,18 @@ use Rattle.health_last.proofs.seek.in_chunk.Tie as tie
 returns : tie.Need-returns
 returns c =
     let a = c .before .before .before .args in
-    sym (no-packets (entry (a .position) (a .header)) (soundOf (a .words .now) (a .packet-type)) (λ e. c .if1 .taken (c .before .kind-of .ensures ∙ e)))
+    sym (no-packets (a .chunk) (soundOf (a .words .now) (a .packet-type)) (λ e. c .if1 .taken (c .before .kind-of .ensures ∙ e)))
 
 returns-2 : tie.Need-returns-2
 returns-2 c =
-    let tested = c .before .before .before in
+    let tested = c .before .before .before .before .before .before in
     let a = tested .before .before .before .args in
     let f = soundOf (a .words .now) (a .packet-type) in
     c .in-row .ensures
-    ∙ ap (λ (n : ℕ). lastWhere f (packetPlaces (n / 32) (a .position + 2))) (c .before .before .size-of .ensures)
-    ∙ ap (lastWhere f) (sym (chunk-packets (entry (a .position) (a .header)) (sym (tested .before .kind-of .ensures) ∙ tested .if1 .left)))
+    ∙ ap (λ (n : ℕ). lastWhere f (packetPlaces (n / 32) (a .chunk .position .0 + 2))) (c .before .before .before .size-of .ensures)
+    ∙ ap (lastWhere f) (sym (chunk-packets (a .chunk) (sym (tested .before .kind-of .ensures) ∙ tested .if1 .left)))
 
 pub in-chunk-spec : {M : Type 1} → statement M
 in-chunk-spec =
     tie.close
-    (tie.spec (λ c κs. search needs) returns (λ c. search needs) (λ c κs. search needs) (λ c κs. search needs) returns-2)
+    (tie.spec (λ c κs. search needs) returns (λ c. search needs) (λ c κs. search needs) (λ c. search needs) (λ c κs. search needs) returns-2)

@@ -10,7 +10,7 @@ use Rattle.health_last.proofs.seek.in_row.Tie as tie
 
 abbrev Inv-loop : tie.InvT-loop
 Inv-loop words t from count left₀ left =
-    (left ≤ count) × (lastWhere (soundOf words t) (packetPlaces left from) ≡ lastWhere (soundOf words t) (packetPlaces count from))
+    (left ≤ count) × (lastWhere (soundOf words t) (packetPlaces left (from .0)) ≡ lastWhere (soundOf words t) (packetPlaces count (from .0)))
 
 abbrev μ-loop : tie.MeasureT-loop
 μ-loop words t from count left₀ left = left
@@ -20,24 +20,24 @@ loop-holds c = (omega arith, refl)
 
 returns : tie.Need-returns Inv-loop μ-loop
 returns c =
-    let turn = c .before .before in
+    let turn = c .before .before .before .before in
     let a = turn .before .before .before .args in
-    last-found (soundOf (a .words .now) (a .packet-type)) (turn .before .loop .left) (a .from) (turn .loop-test .taken) (sym (c .before .is-of .ensures) ∙ c .if1 .taken)
+    last-found (soundOf (a .words .now) (a .packet-type)) (turn .before .loop .left) (a .from .0) (turn .loop-test .taken) (sym (c .before .is-of .ensures) ∙ c .if1 .taken)
     ∙ turn .before .loop .inv .1
 
 loop-again : tie.Need-loop-again Inv-loop μ-loop
 loop-again c =
-    let turn = c .before .before in
+    let turn = c .before .before .before .before in
     let a = turn .before .before .before .args in (
       omega arith,
-      last-before (soundOf (a .words .now) (a .packet-type)) (turn .before .loop .left) (a .from) (turn .loop-test .taken) (sym (c .before .is-of .ensures) ∙ c .if1 .left)
+      last-before (soundOf (a .words .now) (a .packet-type)) (turn .before .loop .left) (a .from .0) (turn .loop-test .taken) (sym (c .before .is-of .ensures) ∙ c .if1 .left)
           ∙ turn .before .loop .inv .1,
     )
 
 returns-2 : tie.Need-returns-2 Inv-loop μ-loop
 returns-2 c =
     let a = c .before .before .before .args in
-    sym (none-left (soundOf (a .words .now) (a .packet-type)) (c .before .loop .left) (a .from) (omega arith)) ∙ c .before .loop .inv .1
+    sym (none-left (soundOf (a .words .now) (a .packet-type)) (c .before .loop .left) (a .from .0) (omega arith)) ∙ c .before .loop .inv .1
 
 pub in-row-spec : {M : Type 1} → statement M
 in-row-spec =

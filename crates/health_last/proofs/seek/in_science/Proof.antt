@@ -10,10 +10,10 @@ use Rattle.health_last.proofs.seek.in_science.Statement.{statement}
 use Rattle.health_last.proofs.seek.in_science.Tie as tie
 
 abbrev Inv-loop : tie.InvT-loop
-Inv-loop words sync t last₀ at₀ last at = Sifted sync t words at last
+Inv-loop words sync t last₀ at₀ last at = Sifted sync t words (at .0) last
 
 abbrev μ-loop : tie.MeasureT-loop
-μ-loop words sync t last₀ at₀ last at = length words - at
+μ-loop words sync t last₀ at₀ last at = length words - at .0
 
 loop-holds : tie.Need-loop-holds Inv-loop μ-loop
 loop-holds c = none-sifted _ _ _
@@ -22,15 +22,15 @@ returns : tie.Need-returns Inv-loop μ-loop
 returns c =
     let l = c .before .before .before in
     let a = l .before .before .args in
-    all-sifted (a .sync) (a .packet-type) (a .words .now) (l .loop .inv) (ended (a .sync) (a .words .now) (l .loop .at) (sym (c .before .before .next .ensures) ∙ c .enum-told .given .1))
+    all-sifted (a .sync) (a .packet-type) (a .words .now) (l .loop .inv) (ended (a .sync) (a .words .now) (l .loop .at .0) (sym (c .before .before .next .ensures) ∙ c .enum-told .given .1))
 
 -- the chunk that was found
 step : (c : tie.After-known-told Inv-loop μ-loop)
     → (let l = c .before .before .before .before in
-    Next (l .before .before .args .sync) (l .before .before .args .words .now) (l .loop .at) (c .before .found .given .0 .0) (c .before .found .given .0 .1 .0 .0))
+    Next (l .before .before .args .sync) (l .before .before .args .words .now) (l .loop .at .0) (c .before .found .given .0 .0) (c .before .found .given .0 .1 .0 .0))
 step c =
     let l = c .before .before .before .before in
-    stepped (l .before .before .args .sync) (l .before .before .args .words .now) (l .loop .at) (c .before .found .given .0 .0) (c .before .found .given .0 .1 .0)
+    stepped (l .before .before .args .sync) (l .before .before .args .words .now) (l .loop .at .0) (c .before .found .given .0 .0) (c .before .found .given .0 .1 .0)
     (sym (c .before .before .before .next .ensures) ∙ c .before .found .given .1)
 
 in-chunk-requires : tie.Need-in-chunk-requires Inv-loop μ-loop

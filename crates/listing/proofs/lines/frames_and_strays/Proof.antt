@@ -4,7 +4,7 @@ use Prim.Native.Nat.{_-_}
 use native.Mathlib.Omega.{arith}
 use lib.ListN.{length}
 use borrow.Author.Needs.{needs}
-use Rattle.listing.proofs.Ahead.{ahead}
+use Rattle.frame.proofs.Ahead.{ahead}
 use Rattle.listing.proofs.lines.frames_and_strays.Statement.{statement}
 use Rattle.listing.proofs.lines.frames_and_strays.Tie as tie
 

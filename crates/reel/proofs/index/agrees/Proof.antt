@@ -45,20 +45,22 @@ returns-2 c =
 
 add-at : tie.Need-add-at Inv-loop μ-loop
 add-at c =
-    let l = c .before .before .before .before .before .before in
+    let b = c .before in
+    let l = b .before .before .before .before .before .before in
     let a = l .before .before .before .args in
-    record { fits = omega (arith, entry-fits (a .index .now) (l .loop .at) _ (sym (c .before .entry-stands .ensures) ∙ not-false _ (c .if1 .left))) }
+    record { fits = omega (arith, entry-fits (a .index .now) (l .loop .at) _ (sym (b .before .entry-stands .ensures) ∙ not-false _ (b .if1 .left))) }
 
 loop-less : tie.Need-loop-less Inv-loop μ-loop
-loop-less c = let k = c .before .before in omega (arith, step k .ahead, step k .within, step k .end)
+loop-less c = let k = c .before .before .before in omega (arith, step k .ahead, step k .within, step k .end)
 
 loop-again : tie.Need-loop-again Inv-loop μ-loop
 loop-again c =
-    let k = c .before .before in
+    let b = c .before in
+    let k = b .before .before in
     let l = k .before .before .before .before in
     let a = l .before .before .before .args in
     entry-compared (a .sync) (a .recording .now) (a .index .now) _ _ (l .loop .inv) _ _ (step k)
-    (sym (c .before .entry-stands .ensures) ∙ not-false _ (c .if1 .left))
+    (sym (b .before .entry-stands .ensures) ∙ not-false _ (b .if1 .left))
 
 pub agrees-spec : {M : Type 1} → statement M
 agrees-spec =

@@ -8,36 +8,31 @@ use Rattle.reel.proofs.trailer.agrees.Tie as tie
 
 returns : tie.Need-returns
 returns c =
-    let w = c .before .before in
-    let a = w .before .before .args in
-    let e = w .before .before .pre .1 in
-    wrong-length (a .reel .now) _ _ (w .wide .ensures .0 ∙ ap (λ (t : Trailer). t .n) e) (c .before .wide2 .ensures .0 ∙ ap (λ (t : Trailer). t .count) e) (c .if1 .taken)
+    let s = c .before .before .before .before .before in
+    let e = s .pre .1 in
+    wrong-length (s .args .reel .now) _ _ (ap (λ (t : Trailer). t .n .0) e) (ap (λ (t : Trailer). t .count) e) (c .if1 .taken)
 
 returns-2 : tie.Need-returns-2
 returns-2 c =
     let k = c .before .before in
-    let w = k .before .before in
-    let a = w .before .before .args in
-    let e = w .before .before .pre .1 in
-    wrong-edition (a .reel .now) _ _ (w .wide .ensures .0 ∙ ap (λ (t : Trailer). t .n) e) (k .before .wide2 .ensures .0 ∙ ap (λ (t : Trailer). t .count) e) (k .if1 .left)
+    let s = k .before .before .before .before .before in
+    let e = s .pre .1 in
+    wrong-edition (s .args .reel .now) _ _ (ap (λ (t : Trailer). t .n .0) e) (ap (λ (t : Trailer). t .count) e) (k .if1 .left)
     _ (ap (λ (t : Trailer). t .edition) e) (c .if2 .taken)
 
 returns-3 : tie.Need-returns-3
 returns-3 c =
     let j = c .before .before .before in
     let k = j .before .before in
-    let w = k .before .before in
-    let a = w .before .before .args in
-    let e = w .before .before .pre .1 in
-    right-crc (a .reel .now) _ _ (w .wide .ensures .0 ∙ ap (λ (t : Trailer). t .n) e) (k .before .wide2 .ensures .0 ∙ ap (λ (t : Trailer). t .count) e) (k .if1 .left)
+    let s = k .before .before .before .before .before in
+    let e = s .pre .1 in
+    right-crc (s .args .reel .now) _ _ (ap (λ (t : Trailer). t .n .0) e) (ap (λ (t : Trailer). t .count) e) (k .if1 .left)
     _ _ (sym (ap (λ (t : Trailer). t .edition) e) ∙ j .if2 .left) (ap (λ (t : Trailer). t .crc) e) (c .before .words .ensures)
 
 pub agrees-spec : {M : Type 1} → statement M
 agrees-spec =
     tie.close
     (tie.spec
-    (λ c κs. search needs)
-    (λ c κs. search needs)
     (λ c. search needs)
     (λ c. search needs)
     (λ c. search needs)

@@ -39,25 +39,27 @@ step c =
     stepped (a .sync) (a .recording .now) (l .loop .from) (c .before .found .given .0 .0) (c .before .found .given .0 .1 .0)
     (sym (c .before .before .before .next .ensures) ∙ c .before .found .given .1)
 
-mul-put-entry : tie.Need-mul-put-entry Inv-loop μ-loop
-mul-put-entry c = let l = c .before .before .before .before .before in record { fits = omega (arith, l .loop .inv .fits) }
+mul-at : tie.Need-mul-at Inv-loop μ-loop
+mul-at c = let l = c .before .before .before .before .before in record { fits = omega (arith, l .loop .inv .fits) }
 
-add-put-entry : tie.Need-add-put-entry Inv-loop μ-loop
-add-put-entry c = let l = c .before .before .before .before .before in record { fits = omega (arith, l .loop .inv .fits) }
+add-at : tie.Need-add-at Inv-loop μ-loop
+add-at c = let l = c .before .before .before .before .before in record { fits = omega (arith, l .loop .inv .fits) }
 
 put-entry-requires : tie.Need-put-entry-requires Inv-loop μ-loop
-put-entry-requires c κs = omega (arith, step (c .before) .within, step (c .before) .end, c .before .before .before .before .before .before .before .before .pre .0)
+put-entry-requires c κs =
+    let k = c .before .before in
+    omega (arith, step k .within, step k .end, k .before .before .before .before .before .before .before .pre .0)
 
 add-count : tie.Need-add-count Inv-loop μ-loop
-add-count c = let l = c .before .before .before .before .before .before .before .before in record { fits = omega (arith, l .loop .inv .fits) }
+add-count c = let l = c .before .before .before .before .before .before .before .before .before in record { fits = omega (arith, l .loop .inv .fits) }
 
 loop-less : tie.Need-loop-less Inv-loop μ-loop
-loop-less c = let k = c .before .before .before .before in omega (arith, step k .ahead, step k .within, step k .end)
+loop-less c = let k = c .before .before .before .before .before in omega (arith, step k .ahead, step k .within, step k .end)
 
 loop-again : tie.Need-loop-again Inv-loop μ-loop
 loop-again c =
     let p = c .before .before in
-    let k = p .before .before in
+    let k = p .before .before .before in
     let l = k .before .before .before .before in
     entry-indexed _ _ _ _ _ _ (l .loop .inv) _ _ (step k) _ (p .put-entry .ensures)
 
@@ -73,8 +75,8 @@ write-spec =
     (λ c. search needs)
     same-length
     returns
-    mul-put-entry
-    add-put-entry
+    mul-at
+    add-at
     put-entry-requires
     add-count
     loop-less

@@ -9,8 +9,8 @@ returns c =
     let q = c .before .before in
     let w = q .before .before .before in
     let r = w .before .before .before .before .before in
-    let a = r .before .before .before .before .args in
-    trailer-put (a .n) (a .count) _ (a .room .now) _ _ (r .before .before .before .before .pre .2) (r .put-words .ensures) (w .words .ensures) (q .put-words2 .ensures)
+    let s = r .before .before .before .before .before in
+    trailer-put (s .args .n .0) (s .args .count) _ (s .args .room .now) _ _ (s .pre .2) (r .put-words .ensures) (w .words .ensures) (q .put-words2 .ensures)
 
 pub put-trailer-spec : {M : Type 1} → statement M
 put-trailer-spec =

@@ -12,24 +12,24 @@ use Rattle.chunk.specs.declared.Found.{Found}
 use Rattle.chunk.specs.Header.{kind}
 use Rattle.chunk.specs.Reading.{nextFrom, listedWords}
 use Rattle.chunk.proofs.Steps.{Next, stepped, found-end}
 use Rattle.frame.specs.declared.Piece.{Piece}
 use Rattle.frame.specs.Shape.{starts, frameWords}
 use Rattle.frame.specs.Walk.{startsFrame}
 use Rattle.frame.specs.Pieces.{nextPiece}
-use Rattle.frame.proofs.pieces.Stepping.{no-piece, health-passed, frame-next, stray-next, frame-starts}
+use Rattle.frame.proofs.Stepping.{no-piece, health-passed, frame-next, stray-next, frame-starts}
 use Rattle.frame.proofs.Walking.{first-and-ahead, frame-ends-inside}
 
 -- a place to go on from
 abbrev On : List ℕ → ℕ → ℕ → Type 0
 On ws p q = (p < q) × (q ≤ length ws)
 
 abbrev pub Ahead : List ℕ → ℕ → Piece → Type 0
-Ahead ws p (Piece.Whole at f on) = On ws p (on .0)
+Ahead ws p (Piece.Frame at f on) = On ws p (on .0)
 Ahead ws p (Piece.Stray at on) = On ws p (on .0)
 Ahead ws p Piece.End = Unit {0}
 
 sooner : (ws : List ℕ) (p q : ℕ) → p ≤ q → (x : Piece) → Ahead ws q x → Ahead ws p x
-sooner ws p q h (Piece.Whole at f on) a = (omega arith, a .1)
+sooner ws p q h (Piece.Frame at f on) a = (omega arith, a .1)
 sooner ws p q h (Piece.Stray at on) a = (omega arith, a .1)
 sooner ws p q h Piece.End a = tt
 
@@ -54,7 +54,7 @@ module _ (sync : ℕ) (ws : List ℕ) where
           n = stepped sync ws p e next f
 
           by-start : kind (e .header) ≡ 0 → (b : Bool) → starts (e .header) ≡ b → Ahead ws p (nextPiece sync ws p)
-          by-start z true s = subst (Ahead ws p) (sym (frame-next sync ws p e (next .0) n z s)) (frame-on sync ws p e (next .0) n (frame-starts sync ws p e (next .0) n s))
+          by-start z true s = subst (Ahead ws p) (sym (frame-next sync ws p e (next .0) n s)) (frame-on sync ws p e (next .0) n (frame-starts sync ws p e (next .0) n s))
           by-start z false s = subst (Ahead ws p) (sym (stray-next sync ws p e (next .0) n z s)) (omega (arith, n .ahead), omega (arith, n .within, n .end))
 
           by-kind : (b : Bool) → eqb (kind (e .header)) 0 ≡ b → Ahead ws p (nextPiece sync ws p)

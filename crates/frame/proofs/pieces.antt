@@ -1,2 +1,0 @@
--- Laws of going through a recording.
-pub mod Stepping

@@ -1,0 +1,61 @@
+-- The examples, by computation.
+use mathlib.Core.Path.{_≡_, refl}
+use mathlib.Core.Bool.{true, false}
+use mathlib.Core.List.{[], _∷_, _++_}
+use native.Mathlib.Omega.{arith}
+use Rattle.base.specs.Refusal.{answer, nothingThere, frameCut}
+use Rattle.base_room.specs.Room.{put}
+use Rattle.crc.specs.Crc.{crcBit, crcStep}
+use Rattle.parity_rows.specs.Parity.{xorAll, bitFrom, rowParity, columnParity}
+use Rattle.parity.specs.Unit.{flipped, rowDiffers, columnDiffers, sumAll, firstOf, fiveCases, finding, unitData, judgeVerdict}
+use Rattle.parity_units.specs.Split.{parts, anyDamaged, joinedData, dataWords}
+use Rattle.chunk.specs.Header.{legalSize, legal, headed, ends, confirmed}
+use Rattle.chunk.specs.Reading.{listed, listedWords, leftAt, listedAt}
+use Rattle.health.specs.Packet.{packetCrc, soundPacket}
+use Rattle.health.specs.Writing.{writtenCrc}
+use Rattle.frame.specs.declared.Piece.{Piece}
+use Rattle.frame.specs.Shape.{joining, frameOf, frameChunks, closes, complete}
+use Rattle.frame.specs.Picture.{unitsOf}
+use Rattle.frame.specs.Described.{frame, described}
+use Rattle.frame.specs.Pieces.{framesAndStrays, firstPiece, nextPiece}
+use Rattle.frame_reading.specs.Replies.{refused, atReply, judgeReply, readReply, readRoom}
+use Rattle.frame_laws.specs.Written.{joined, unitRow, writable, fullButLast, Written}
+use Rattle.frame_laws.specs.Examples.{sync, unit, packet, image, continuation, health, Examples}
+
+completes : (atReply sync (image 0x8000 ++ health 4) 0 ≡ frame 0 1 1 true 1)
+    × (readReply sync (image 0x8000 ++ health 4) 0 2 ≡ frame 0 1 1 true 1)
+    × (readRoom sync (image 0x8000 ++ health 4) 0 (0xFFFF ∷ 0xFFFF ∷ []) ≡ 0x8000 ∷ 0xFFFF ∷ [])
+unfolding answer put atReply readReply readRoom described complete closes frameChunks frameOf joining unitsOf parts dataWords anyDamaged joinedData unitData judgeVerdict flipped finding fiveCases firstOf sumAll rowDiffers columnDiffers rowParity columnParity bitFrom xorAll listedAt leftAt listed listedWords confirmed headed ends legal legalSize soundPacket packetCrc writtenCrc crcBit crcStep
+completes = (refl, refl, refl)
+
+repairs : (readReply sync (image 0 ++ health 4) 0 2 ≡ frame 0 1 1 true 1)
+    × (readRoom sync (image 0 ++ health 4) 0 (0xFFFF ∷ 0xFFFF ∷ []) ≡ 0x8000 ∷ 0xFFFF ∷ [])
+unfolding answer put readReply readRoom described complete closes frameChunks frameOf joining unitsOf parts dataWords anyDamaged joinedData unitData judgeVerdict flipped finding fiveCases firstOf sumAll rowDiffers columnDiffers rowParity columnParity bitFrom xorAll listedAt leftAt listed listedWords confirmed headed ends legal legalSize soundPacket packetCrc writtenCrc crcBit crcStep
+repairs = (refl, refl)
+
+cuts : (atReply sync (image 0x8000 ++ health 5) 0 ≡ frame 0 1 1 false 1) × (judgeReply sync (image 0x8000 ++ health 5) 0 ≡ refused frameCut)
+unfolding answer atReply judgeReply described complete closes frameChunks frameOf joining unitsOf parts dataWords anyDamaged judgeVerdict finding fiveCases firstOf sumAll rowDiffers columnDiffers rowParity columnParity bitFrom xorAll listedAt leftAt listed listedWords confirmed headed ends legal legalSize soundPacket packetCrc writtenCrc crcBit crcStep
+cuts = (refl, refl)
+
+strays : (nextPiece sync (continuation 0x8000) 0 ≡ Piece.Stray (record { 0 = 0 }) (record { 0 = 11 }))
+    × (atReply sync (continuation 0x8000) 0 ≡ refused nothingThere)
+unfolding answer atReply firstPiece framesAndStrays described listedAt leftAt listed confirmed headed ends legal legalSize
+strays = (refl, refl)
+
+steps : (nextPiece sync (image 0x8000 ++ continuation 0x8000) 0 ≡ Piece.Frame (record { 0 = 0 }) (frame 0 1 1 false 1) (record { 0 = 11 }))
+    × (nextPiece sync (image 0x8000 ++ continuation 0x8000) 11 ≡ Piece.Stray (record { 0 = 11 }) (record { 0 = 22 }))
+    × (nextPiece sync (image 0x8000 ++ continuation 0x8000) 22 ≡ Piece.End)
+    × (nextPiece sync (image 0x8000 ++ continuation 0x8000) 1 ≡ Piece.Stray (record { 0 = 11 }) (record { 0 = 22 }))
+unfolding firstPiece framesAndStrays described complete closes frameChunks frameOf joining unitsOf parts dataWords listed listedWords confirmed headed ends legal legalSize soundPacket packetCrc crcBit crcStep
+steps = (refl, refl, refl, refl)
+
+writes : Written 1 ((unit 0x8000 ∷ []) ∷ []) (packet 4) ((0x8000 ∷ []) ∷ [])
+unfolding writable unitRow joined fullButLast unitData judgeVerdict flipped finding fiveCases firstOf sumAll rowDiffers columnDiffers rowParity columnParity bitFrom xorAll legalSize soundPacket packetCrc writtenCrc crcBit crcStep
+writes = record { ofCamera = omega arith; image = refl; full = refl; closing = refl; observed = refl; hold = (refl, refl, tt) }
+
+hits : Written 1 ((unit 0 ∷ []) ∷ []) (packet 4) ((0x8000 ∷ []) ∷ [])
+unfolding writable unitRow joined fullButLast unitData judgeVerdict flipped finding fiveCases firstOf sumAll rowDiffers columnDiffers rowParity columnParity bitFrom xorAll legalSize soundPacket packetCrc writtenCrc crcBit crcStep
+hits = record { ofCamera = omega arith; image = refl; full = refl; closing = refl; observed = refl; hold = (refl, refl, tt) }
+
+pub examples : Examples
+examples = record { complete = completes; repaired = repairs; cut = cuts; stray = strays; stepped = steps; written = writes; hurt = hits }

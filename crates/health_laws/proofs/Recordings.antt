@@ -1,0 +1,210 @@
+-- The last packet of a type in a recording that is made of written packets. Whether a sound packet of the type stands at a place is told by the words from
+-- there on, which begin with a written packet; so the search goes through the packets as they were written, and what it finds is theirs to say.
+use mathlib.Core.Path.{_≡_, refl, sym, ap, _∙_}
+use mathlib.Core.Bool.{Bool, true, false, not, _&&_}
+use mathlib.Core.List.{List, [], _∷_, _++_, append-nil, append-assoc}
+use Prim.Native.Nat.{ℕ, _+_, _*_, _/_}
+use native.Mathlib.Omega.{arith}
+use lib.ListN.{length, take, drop, length-append, take-append-drop}
+use lib.Seq.{take-at, drop-at, drop-drop, take-append-seam}
+use lib.Dec.{eqb}
+use borrow.Author.Tests.{eq-eqb, ne-eqb, eqb-true, eqb-false, not-true}
+use Rattle.base.proofs.Booleans.{and-left, and-right}
+use Rattle.chunk.specs.declared.Entry.{Entry}
+use Rattle.chunk.specs.Header.{kind, size, span}
+use Rattle.chunk.specs.Reading.{entry}
+use Rattle.chunk_laws.specs.Stretch.{words, offset, entries, whole, wholeRow}
+use Rattle.chunk_laws.proofs.Tests.{and-both, by-test}
+use Rattle.chunk_laws.proofs.Rows.{whole-length, row-first, row-rest, row-drop, lists-row}
+use Rattle.health.specs.Packet.{packetType}
+use Rattle.health_last.specs.Packets.{foundAt, nowhere, packetPlaces, chunkPlaces, placesOf, soundOf, later, lastWhere}
+use Rattle.health_last.proofs.Later.{last-append}
+use Rattle.health_laws.specs.Written.{written}
+use Rattle.health_laws.specs.Recordings.{Packet, packets, noneOf, LastInHealth, NoneInHealth, Carrier, chunks, allCarried, LastInScience, NoneInScience}
+use Rattle.health_laws.proofs.RoundTrip.{accepted-parts, written-packet, left-is-sound}
+
+-- ---- one packet
+
+-- the words of a packet
+abbrev packet : Packet → List ℕ
+packet p = written (p .type) (p .time) (p .words) (p .room)
+
+packet-length : (p : Packet) → length (packet p) ≡ 32
+packet-length p =
+    ap length (written-packet (p .type) (p .time) (p .words) (p .room) (p .accepted))
+    ∙ omega (arith, accepted-parts (p .type) (p .time) (p .words) (p .room) (p .accepted))
+
+packet-type : (p : Packet) → packetType (packet p) ≡ p .type
+packet-type p = ap packetType (written-packet (p .type) (p .time) (p .words) (p .room) (p .accepted))
+
+packets-length : (ps : List Packet) → length (packets ps) ≡ 32 * length ps
+packets-length [] = refl
+packets-length (p ∷ ps) = omega (arith, length-append (packet p) (packets ps), packet-length p, packets-length ps)
+
+-- at a place from where on a written packet stands, a sound one of its type stands and of no other
+told-by-type : (t : ℕ) (ws : List ℕ) (at : ℕ) (p : Packet) (rest : List ℕ) → drop at ws ≡ packet p ++ rest → soundOf ws t at ≡ eqb (p .type) t
+unfolding soundOf
+told-by-type t ws at p rest e =
+    let here : take 32 (drop at ws) ≡ packet p = ap (take 32) e ∙ take-at (packet p) rest 32 (packet-length p) in
+    rw (here, packet-type p, left-is-sound (p .type) (p .time) (p .words) (p .room) (p .accepted)) (and-true (eqb (p .type) t))
+  where
+    and-true : (b : Bool) → b && true ≡ b
+    and-true true = refl
+    and-true false = refl
+
+past-packet : (ws : List ℕ) (at : ℕ) (p : Packet) (rest : List ℕ) → drop at ws ≡ packet p ++ rest → drop (at + 32) ws ≡ rest
+past-packet ws at p rest e = sym (drop-drop 32 at ws) ∙ ap (drop 32) e ∙ drop-at (packet p) rest 32 (packet-length p)
+
+-- ---- a row of packets that stands at a place
+
+none-in-row : (t : ℕ) (ws : List ℕ) (at : ℕ) (ps : List Packet) (rest : List ℕ) → drop at ws ≡ packets ps ++ rest → noneOf t ps ≡ true
+    → lastWhere (soundOf ws t) (packetPlaces (length ps) at) ≡ nowhere
+unfolding lastWhere packetPlaces
+none-in-row t ws at [] rest e k = refl
+none-in-row t ws at (p ∷ ps) rest e k =
+    let e′ : drop at ws ≡ packet p ++ (packets ps ++ rest) = e ∙ append-assoc (packet p) (packets ps) rest in
+    let other : eqb (p .type) t ≡ false = not-true (eqb (p .type) t) (and-left (not (eqb (p .type) t)) _ k) in
+    rw (
+      none-in-row t ws (at + 32) ps rest (past-packet ws at p (packets ps ++ rest) e′) (and-right (not (eqb (p .type) t)) _ k),
+      told-by-type t ws at p (packets ps ++ rest) e′ ∙ other,
+    )
+
+last-in-row : (ws : List ℕ) (at : ℕ) (before : List Packet) (p : Packet) (after : List Packet) (rest : List ℕ)
+    → drop at ws ≡ packets (before ++ p ∷ after) ++ rest → noneOf (p .type) after ≡ true
+    → lastWhere (soundOf ws (p .type)) (packetPlaces (length (before ++ p ∷ after)) at) ≡ foundAt (at + length (packets before))
+unfolding lastWhere packetPlaces
+last-in-row ws at [] p after rest e k =
+    let e′ : drop at ws ≡ packet p ++ (packets after ++ rest) = e ∙ append-assoc (packet p) (packets after) rest in
+    rw (
+      none-in-row (p .type) ws (at + 32) after rest (past-packet ws at p (packets after ++ rest) e′) k,
+      told-by-type (p .type) ws at p (packets after ++ rest) e′ ∙ eq-eqb (p .type) (p .type) refl,
+    )
+    (ap foundAt (omega arith))
+last-in-row ws at (q ∷ before) p after rest e k =
+    let tail = packets (before ++ p ∷ after) in
+    let e′ : drop at ws ≡ packet q ++ (tail ++ rest) = e ∙ append-assoc (packet q) tail rest in
+    rw (last-in-row ws (at + 32) before p after rest (past-packet ws at q (tail ++ rest) e′) k)
+    (ap foundAt (omega (arith, length-append (packet q) (packets before), packet-length q)))
+
+pub last-in-health : LastInHealth
+last-in-health before p after k =
+    let ps = before ++ p ∷ after in
+    let n : length (packets ps) / 32 ≡ length ps = omega (arith, packets-length ps) in
+    rw n (last-in-row (packets ps) 0 before p after [] (sym (append-nil (packets ps))) k ∙ ap foundAt (omega arith))
+
+pub none-in-health : NoneInHealth
+none-in-health t ps k =
+    let n : length (packets ps) / 32 ≡ length ps = omega (arith, packets-length ps) in
+    rw n (none-in-row t (packets ps) 0 ps [] (sym (append-nil (packets ps))) k)
+
+-- ---- a chunk and its packets
+
+module _ (c : Carrier) (k : whole (c .chunk) ≡ true) where
+  abbrev header : ℕ
+  header = c .chunk .header
+
+  by-kind : {P : Type 0} → (kind header ≡ 0 → P) → (kind header ≡ 1 → P) → P
+  by-kind image health = by-test (eqb (kind header) 1) (λ e. health (eqb-true (kind header) 1 e)) (λ e. image (omega (arith, eqb-false (kind header) 1 e)))
+
+  -- the packets of the chunk are those that it carries
+  carried-places : (at : ℕ) → chunkPlaces (entry at header) ≡ packetPlaces (length (c .carried)) (at + 2)
+  unfolding chunkPlaces packetPlaces
+  carried-places at =
+      by-kind
+      (λ e. rw (ne-eqb (kind header) 1 (λ z. omega (arith, e, z)), c .image e))
+      (λ e.
+      let n : size header / 32 ≡ length (c .carried) = omega (arith, whole-length (c .chunk) k, ap length (c .health e), packets-length (c .carried)) in
+      rw (eq-eqb (kind header) 1 e, n))
+
+  -- and they stand at the front of its payload
+  carried-first : (tail : List ℕ) → take (length (packets (c .carried))) (c .chunk .payload ++ tail) ≡ packets (c .carried)
+  carried-first tail =
+      by-kind
+      (λ e. rw (c .image e))
+      (λ e. rw (c .health e) (take-append-seam (packets (c .carried)) tail))
+
+-- ---- a row of chunks that stands at a place
+
+module _ (sync : ℕ) (ws : List ℕ) (at : ℕ) (c : Carrier) (cs : List Carrier) (k : wholeRow (chunks (c ∷ cs)) ≡ true) (e : drop at ws ≡ words sync (chunks (c ∷ cs))) where
+  abbrev tail : List ℕ
+  tail = words sync (chunks cs)
+
+  first-whole : whole (c .chunk) ≡ true
+  first-whole = row-first (c .chunk) (chunks cs) k
+
+  rest-whole : wholeRow (chunks cs) ≡ true
+  rest-whole = row-rest (c .chunk) (chunks cs) k
+
+  -- the packets stand past the header, and the other chunks past the chunk
+  packets-there : drop (at + 2) ws ≡ packets (c .carried) ++ drop (length (packets (c .carried))) (c .chunk .payload ++ tail)
+  packets-there =
+      let n = length (packets (c .carried)) in
+      sym (drop-drop 2 at ws) ∙ ap (drop 2) e ∙ sym (take-append-drop n (c .chunk .payload ++ tail))
+      ∙ ap (λ (x : List ℕ). x ++ drop n (c .chunk .payload ++ tail)) (carried-first c first-whole tail)
+
+  rest-there : drop (at + span (c .chunk .header)) ws ≡ tail
+  rest-there = sym (drop-drop (span (c .chunk .header)) at ws) ∙ ap (drop (span (c .chunk .header))) e ∙ row-drop sync (c .chunk) (chunks cs) first-whole
+
+  -- the last packet is in the other chunks, or else in the first
+  by-chunk : (t : ℕ) → lastWhere (soundOf ws t) (placesOf (entries at (chunks (c ∷ cs))))
+      ≡ later (lastWhere (soundOf ws t) (placesOf (entries (at + span (c .chunk .header)) (chunks cs))))
+      (lastWhere (soundOf ws t) (packetPlaces (length (c .carried)) (at + 2)))
+  unfolding placesOf
+  by-chunk t =
+      let f = soundOf ws t in
+      last-append f (chunkPlaces (entry at (c .chunk .header))) (placesOf (entries (at + span (c .chunk .header)) (chunks cs)))
+      ∙ rw (carried-places c first-whole at)
+
+-- ---- none, and the last one, in a row of chunks
+
+none-append : (t : ℕ) (ps qs : List Packet) → noneOf t (ps ++ qs) ≡ true → (noneOf t ps ≡ true) × (noneOf t qs ≡ true)
+none-append t [] qs k = (refl, k)
+none-append t (p ∷ ps) qs k =
+    let rest = none-append t ps qs (and-right (not (eqb (p .type) t)) _ k) in
+    (and-both (not (eqb (p .type) t)) (noneOf t ps) (and-left (not (eqb (p .type) t)) _ k) (rest .0), rest .1)
+
+none-in-chunks : (t sync : ℕ) (ws : List ℕ) (at : ℕ) (cs : List Carrier) → wholeRow (chunks cs) ≡ true → drop at ws ≡ words sync (chunks cs)
+    → noneOf t (allCarried cs) ≡ true → lastWhere (soundOf ws t) (placesOf (entries at (chunks cs))) ≡ nowhere
+unfolding placesOf lastWhere
+none-in-chunks t sync ws at [] k e n = refl
+none-in-chunks t sync ws at (c ∷ cs) k e n =
+    let parts = none-append t (c .carried) (allCarried cs) n in
+    by-chunk sync ws at c cs k e t
+    ∙ rw (
+      none-in-chunks t sync ws (at + span (c .chunk .header)) cs (rest-whole sync ws at c cs k e) (rest-there sync ws at c cs k e) (parts .1),
+      none-in-row t ws (at + 2) (c .carried) _ (packets-there sync ws at c cs k e) (parts .0),
+    )
+
+last-in-chunks : (sync : ℕ) (ws : List ℕ) (at : ℕ) (before : List Carrier) (c : Carrier) (after : List Carrier)
+    (earlier : List Packet) (p : Packet) (later : List Packet)
+    → wholeRow (chunks (before ++ c ∷ after)) ≡ true → drop at ws ≡ words sync (chunks (before ++ c ∷ after))
+    → c .carried ≡ earlier ++ p ∷ later → noneOf (p .type) (later ++ allCarried after) ≡ true
+    → lastWhere (soundOf ws (p .type)) (placesOf (entries at (chunks (before ++ c ∷ after))))
+    ≡ foundAt (at + offset sync (chunks before) + 2 + length (packets earlier))
+last-in-chunks sync ws at [] c after earlier p later k e carries n =
+    let parts = none-append (p .type) later (allCarried after) n in
+    let there = packets-there sync ws at c after k e in
+    by-chunk sync ws at c after k e (p .type)
+    ∙ rw (
+      none-in-chunks (p .type) sync ws (at + span (c .chunk .header)) after (rest-whole sync ws at c after k e) (rest-there sync ws at c after k e) (parts .1),
+      carries,
+    )
+    (last-in-row ws (at + 2) earlier p later _ (rw carries at there) (parts .0) ∙ ap foundAt (omega arith))
+last-in-chunks sync ws at (b ∷ before) c after earlier p later k e carries n =
+    let cs = before ++ c ∷ after in
+    by-chunk sync ws at b cs k e (p .type)
+    ∙ rw (
+    last-in-chunks sync ws (at + span (b .chunk .header)) before c after earlier p later (rest-whole sync ws at b cs k e) (rest-there sync ws at b cs k e) carries n
+    )
+    (ap foundAt (omega (arith, length-append (b .chunk .payload) (words sync (chunks before)), whole-length (b .chunk) (first-whole sync ws at b cs k e))))
+
+pub last-in-science : LastInScience
+last-in-science sync before c after earlier p later k carries n =
+    let cs = chunks (before ++ c ∷ after) in
+    ap (λ (es : List Entry). lastWhere (soundOf (words sync cs) (p .type)) (placesOf es)) (lists-row sync 0 cs k)
+    ∙ last-in-chunks sync (words sync cs) 0 before c after earlier p later k refl carries n ∙ ap foundAt (omega arith)
+
+pub none-in-science : NoneInScience
+none-in-science sync t cs k n =
+    ap (λ (es : List Entry). lastWhere (soundOf (words sync (chunks cs)) t) (placesOf es)) (lists-row sync 0 (chunks cs) k)
+    ∙ none-in-chunks t sync (words sync (chunks cs)) 0 cs k refl n

@@ -1,0 +1,72 @@
+-- FORMAT, "Health packets", the last packet of a type: recordings that are made of written packets, and where the last packet of a type is found in each.
+use Prim.Native.Nat.{ℕ, _+_}
+use mathlib.Core.Path.{_≡_}
+use mathlib.Core.Bool.{Bool, true, not, _&&_}
+use mathlib.Core.List.{List, [], _∷_, _++_}
+use lib.ListN.{length}
+use lib.Dec.{eqb}
+use Rattle.chunk.specs.Header.{kind}
+use Rattle.chunk_laws.specs.Stretch.{Laid, words, offset, wholeRow}
+use Rattle.health_last.specs.Packets.{foundAt, nowhere}
+use Rattle.health_last.specs.Last.{inScience, inHealth}
+use Rattle.health_laws.specs.Written.{Accepted, written}
+
+-- A packet that the writer accepted and left in a room.
+pub record Packet : Type 0 where
+  pub type : ℕ
+  pub time : ℕ
+  pub words : List ℕ
+  pub room : List ℕ
+  pub accepted : Accepted type words room
+
+-- the words of packets, one straight after the other
+abbrev pub packets : List Packet → List ℕ
+packets [] = []
+packets (p ∷ ps) = written (p .type) (p .time) (p .words) (p .room) ++ packets ps
+
+-- none of these is of the type t
+abbrev pub noneOf : ℕ → List Packet → Bool
+noneOf t [] = true
+noneOf t (p ∷ ps) = not (eqb (p .type) t) && noneOf t ps
+
+-- ---- a health recording
+
+-- the last packet of its type is found where it begins
+abbrev pub LastInHealth : Type 0
+LastInHealth = (before : List Packet) (p : Packet) (after : List Packet) → noneOf (p .type) after ≡ true
+    → inHealth (packets (before ++ p ∷ after)) (p .type) ≡ foundAt (length (packets before))
+
+-- and nothing where no packet is of the type
+abbrev pub NoneInHealth : Type 0
+NoneInHealth = (t : ℕ) (ps : List Packet) → noneOf t ps ≡ true → inHealth (packets ps) t ≡ nowhere
+
+-- ---- a science recording
+
+-- A chunk and the packets that it carries: none in an image chunk; in a health chunk they are the payload.
+pub record Carrier : Type 0 where
+  pub chunk : Laid
+  pub carried : List Packet
+  pub image : kind (chunk .header) ≡ 0 → carried ≡ []
+  pub health : kind (chunk .header) ≡ 1 → chunk .payload ≡ packets carried
+
+-- the chunks of a row
+abbrev pub chunks : List Carrier → List Laid
+chunks [] = []
+chunks (c ∷ cs) = c .chunk ∷ chunks cs
+
+-- the packets of a row, in order
+abbrev pub allCarried : List Carrier → List Packet
+allCarried [] = []
+allCarried (c ∷ cs) = c .carried ++ allCarried cs
+
+-- the last packet of its type in a row of whole chunks is found where it begins, past the two words of its chunk's header
+abbrev pub LastInScience : Type 0
+LastInScience = (sync : ℕ) (before : List Carrier) (c : Carrier) (after : List Carrier) (earlier : List Packet) (p : Packet) (later : List Packet)
+    → wholeRow (chunks (before ++ c ∷ after)) ≡ true → c .carried ≡ earlier ++ p ∷ later → noneOf (p .type) (later ++ allCarried after) ≡ true
+    → inScience sync (words sync (chunks (before ++ c ∷ after))) (p .type)
+    ≡ foundAt (offset sync (chunks before) + 2 + length (packets earlier))
+
+-- and nothing where no packet is of the type
+abbrev pub NoneInScience : Type 0
+NoneInScience = (sync t : ℕ) (cs : List Carrier) → wholeRow (chunks cs) ≡ true → noneOf t (allCarried cs) ≡ true
+    → inScience sync (words sync (chunks cs)) t ≡ nowhere

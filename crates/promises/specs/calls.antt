@@ -1,0 +1,10 @@
+pub mod Base
+pub mod Crc
+pub mod Parity
+pub mod Register
+pub mod Chunk
+pub mod Health
+pub mod Frame
+pub mod Command
+pub mod Reel
+pub mod Program
