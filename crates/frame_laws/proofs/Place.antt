@@ -18,7 +18,7 @@ listed-first : (sync p : ℕ) (ws : List ℕ) → listedAt sync ws p ≡ true �
 unfolding listedAt leftAt
 listed-first sync p ws l = and-right (eqb (leftAt sync 0 ws p) 0) (confirmed sync (drop p ws)) l
 
-pub frames-by-place : (sync : ℕ) (ws : List ℕ) → FramesByPlace sync ws
+pub frames-by-place : FramesByPlace
 frames-by-place sync ws p short l =
     let long : tooLong (drop p ws) ≡ tooLong ws =
     le-ltb recordingLimit (length (drop p ws)) (omega (arith, length-drop p ws)) ∙ sym (le-ltb recordingLimit (length ws) short) in

@@ -9,5 +9,5 @@ use Rattle.base.specs.Limit.{recordingLimit}
 use Rattle.chunk.specs.Reading.{listedAt}
 use Rattle.frame_laws.specs.Resync.{SameFrame}
 
-abbrev pub FramesByPlace : ℕ → List ℕ → Type 0
-FramesByPlace sync ws = (p : ℕ) → length ws ≤ recordingLimit → listedAt sync ws p ≡ true → SameFrame sync (drop p ws) 0 ws p
+abbrev pub FramesByPlace : Type 0
+FramesByPlace = (sync : ℕ) (ws : List ℕ) (p : ℕ) → length ws ≤ recordingLimit → listedAt sync ws p ≡ true → SameFrame sync (drop p ws) 0 ws p

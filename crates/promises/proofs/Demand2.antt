@@ -14,7 +14,8 @@ use Rattle.command_laws.proofs.ReadBack.{given-back, accepted-alike, judged-ali
 use Rattle.command_laws.proofs.WrittenAgain.{written-alike}
 use Rattle.frame_laws.proofs.Written.{comes-back}
 use Rattle.frame_laws.proofs.Local.{frames-local, stray-after-gap}
-use Rattle.frame_laws.proofs.Pieces.{says}
+use Rattle.frame_laws.proofs.Pieces.{pieces-said}
+use Rattle.frame_laws.proofs.Place.{frames-by-place}
 use Rattle.reel_laws.proofs.Fits.{written-is-accepted, recording-comes-back, accepted-is-written, old-index-is-refused}
 use Rattle.promises.specs.Demand2.{Demand2}
 
@@ -50,7 +51,8 @@ demand-2 =
       arrived = arrived-hold;
       local = frames-local;
       stray = stray-after-gap;
-      pieces = says;
+      pieces = pieces-said;
+      byPlace = frames-by-place;
       reel = written-is-accepted;
       recording = recording-comes-back;
       reels = accepted-is-written;

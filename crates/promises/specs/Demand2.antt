@@ -16,6 +16,7 @@ use Rattle.command_laws.specs.Agree.{GivenBack, AcceptedAlike, JudgedAlike, Wri
 use Rattle.frame_laws.specs.Written.{FramesComeBack}
 use Rattle.frame_laws.specs.Local.{FramesLocal, StrayAfterGap}
 use Rattle.frame_laws.specs.Pieces.{PiecesSaid}
+use Rattle.frame_laws.specs.Place.{FramesByPlace}
 use Rattle.reel_laws.specs.Fits.{WrittenIsAccepted, RecordingComesBack, AcceptedIsWritten, OldIndexIsRefused}
 
 pub record Demand2 : Type 0 where
@@ -74,6 +75,8 @@ pub record Demand2 : Type 0 where
   pub stray : StrayAfterGap
   -- going through a recording tells its frames and strays, each as what it is, and no others
   pub pieces : PiecesSaid
+  -- a frame that is read from its own first word on is the frame at its place
+  pub byPlace : FramesByPlace
   -- ---- reels
 
   -- a written reel is accepted, and the recording's own words come back from it
