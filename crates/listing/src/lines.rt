@@ -10,13 +10,13 @@ use frame::pieces;
 use program_output::Out;
 use program_output::PAGE;
 
-pub fn refused(out: Out, page: &mut [u8; PAGE], refusal: u8) -> Out {
+pub fn refused(out: Out, page: &mut [u8; PAGE.0], refusal: u8) -> Out {
     out.text(page, b"refused ")
         .number(page, refusal as usize)
         .text(page, b"\n")
 }
 
-pub fn recording(out: Out, page: &mut [u8; PAGE], words: &[u16], sync: u16) -> Out {
+pub fn recording(out: Out, page: &mut [u8; PAGE.0], words: &[u16], sync: u16) -> Out {
     let survey = chunk_reading::counting::count(words, sync);
     out.text(page, b"recording ")
         .number(page, words.len())
@@ -26,7 +26,7 @@ pub fn recording(out: Out, page: &mut [u8; PAGE], words: &[u16], sync: u16) -> O
 }
 
 // A chunk that starts no frame and is no health chunk is a continuation.
-fn kind(out: Out, page: &mut [u8; PAGE], header: u16) -> Out {
+fn kind(out: Out, page: &mut [u8; PAGE.0], header: u16) -> Out {
     if header::kind_of(header) == 1 {
         return out.text(page, b" health ");
     }
@@ -36,7 +36,7 @@ fn kind(out: Out, page: &mut [u8; PAGE], header: u16) -> Out {
     out.text(page, b" image ")
 }
 
-fn chunk(out: Out, page: &mut [u8; PAGE], entry: Entry) -> Out {
+fn chunk(out: Out, page: &mut [u8; PAGE.0], entry: Entry) -> Out {
     let word = entry.header;
     let placed = out.number(page, entry.position.0);
     let begun = kind(placed, page, word);
@@ -48,7 +48,7 @@ fn chunk(out: Out, page: &mut [u8; PAGE], entry: Entry) -> Out {
 }
 
 // A line for each listed chunk.
-pub fn chunks(out: Out, page: &mut [u8; PAGE], words: &[u16], sync: u16) -> Out {
+pub fn chunks(out: Out, page: &mut [u8; PAGE.0], words: &[u16], sync: u16) -> Out {
     let mut said = out;
     let mut at: usize = 0;
     loop {
@@ -61,7 +61,7 @@ pub fn chunks(out: Out, page: &mut [u8; PAGE], words: &[u16], sync: u16) -> Out 
     }
 }
 
-fn frame(out: Out, page: &mut [u8; PAGE], place: Words, frame: Frame) -> Out {
+fn frame(out: Out, page: &mut [u8; PAGE.0], place: Words, frame: Frame) -> Out {
     let begun = out.text(page, b"frame ")
         .number(page, place.0)
         .text(page, b" camera ")
@@ -74,14 +74,14 @@ fn frame(out: Out, page: &mut [u8; PAGE], place: Words, frame: Frame) -> Out {
     begun.text(page, b" cut\n")
 }
 
-fn stray(out: Out, page: &mut [u8; PAGE], place: Words) -> Out {
+fn stray(out: Out, page: &mut [u8; PAGE.0], place: Words) -> Out {
     out.text(page, b"stray ")
         .number(page, place.0)
         .text(page, b"\n")
 }
 
 // A line for each frame and each stray continuation.
-pub fn frames_and_strays(out: Out, page: &mut [u8; PAGE], words: &[u16], sync: u16) -> Out {
+pub fn frames_and_strays(out: Out, page: &mut [u8; PAGE.0], words: &[u16], sync: u16) -> Out {
     let mut said = out;
     let mut at: usize = 0;
     loop {
@@ -102,7 +102,7 @@ pub fn frames_and_strays(out: Out, page: &mut [u8; PAGE], words: &[u16], sync: u
     }
 }
 
-pub fn runs(out: Out, page: &mut [u8; PAGE], words: &[u16], sync: u16) -> Out {
+pub fn runs(out: Out, page: &mut [u8; PAGE.0], words: &[u16], sync: u16) -> Out {
     let outline = chunk_outline::outline(words, sync);
     out.text(page, b"runs ")
         .number(page, outline.image)

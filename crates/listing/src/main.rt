@@ -20,7 +20,7 @@ const WORDS: Words = Words(1 + limit::LISTING_RECORDING.0);
 const ROOM: Bytes = Bytes(2 * WORDS.0 + 1);
 
 // All lines, for words of which the first is the sync word.
-fn list(out: Out, page: &mut [u8; PAGE], words: &[u16]) -> Out
+fn list(out: Out, page: &mut [u8; PAGE.0], words: &[u16]) -> Out
     requires { ⌜ 1 ≤ length (now words) ⌝ }
 {
     let sync = words[0];
@@ -32,7 +32,7 @@ fn list(out: Out, page: &mut [u8; PAGE], words: &[u16]) -> Out
 }
 
 // The answer to an input.
-fn answer(out: Out, page: &mut [u8; PAGE], bytes: &[u8]) -> Out {
+fn answer(out: Out, page: &mut [u8; PAGE.0], bytes: &[u8]) -> Out {
     let mut words = [0u16; WORDS.0];
     let reply = program_input::words(bytes, limit::LISTING_RECORDING, &mut words);
     if reply.refusal != 0 {
@@ -55,7 +55,7 @@ fn main() {
         return;
     }
     let count = taken.count.0;
-    let mut page = [0u8; PAGE];
+    let mut page = [0u8; PAGE.0];
     let out = answer(Out::to(STDOUT_FILENO), &mut page, &bytes[..count]);
     if out.flush(&page).failed {
         complaint(b"listing: standard output cannot be written\n");
