@@ -63,7 +63,7 @@ module _ (k c : ℕ) (payload : List ℕ) (w : accepted k c payload ≡ true) wh
 -- ---- an accepted call
 
 -- the chunk that a call writes
-abbrev laid : Call → Laid
+abbrev pub laid : Call → Laid
 laid c = written (c .kind) (c .camera) (c .payload)
 
 module _ (c : Call) (z : reply c .refusal ≡ 0) where
@@ -98,13 +98,13 @@ module _ (c : Call) (z : reply c .refusal ≡ 0) where
 
 -- ---- a row of accepted calls
 
-row-whole : (cs : List Call) → Accepted cs → wholeRow (map laid cs) ≡ true
+pub row-whole : (cs : List Call) → Accepted cs → wholeRow (map laid cs) ≡ true
 unfolding wholeRow
 row-whole [] a = refl
 row-whole (c ∷ cs) a =
     and-both (whole (laid c)) _ (written-whole (c .kind) (c .camera) (c .payload) (accepted-taken c (a .0))) (row-whole cs (a .1))
 
-recorded-words : (sync : ℕ) (cs : List Call) → Accepted cs → recorded sync cs ≡ words sync (map laid cs)
+pub recorded-words : (sync : ℕ) (cs : List Call) → Accepted cs → recorded sync cs ≡ words sync (map laid cs)
 recorded-words sync [] a = refl
 recorded-words sync (c ∷ cs) a = ap₂ (λ (xs ys : List ℕ). xs ++ ys) (chunk-left c (a .0) sync) (recorded-words sync cs (a .1))
 

@@ -6,7 +6,7 @@ use lib.ListN.{length}
 use lib.Dec.{eqb}
 use Rattle.base.specs.Size.{packetWidth}
 use Rattle.chunk.specs.declared.Entry.{Entry}
-use Rattle.chunk.specs.Header.{kind, size}
+use Rattle.chunk.specs.Header.{headerWidth, kind, size}
 use Rattle.chunk.specs.Reading.{reading}
 use Rattle.health.specs.Packet.{packetAt, packetType, soundPacket}
 use Rattle.health_last.specs.declared.Sought.{Sought}
@@ -17,9 +17,9 @@ unfoldable pub packetPlaces : ℕ → ℕ → List ℕ
 packetPlaces zero at = []
 packetPlaces (suc n) at = at ∷ packetPlaces n (at + packetWidth)
 
--- the packets of a chunk: its payload after the two words of the header, where it is health
+-- the packets of a chunk: its payload after the header, where it is health
 unfoldable pub chunkPlaces : Entry → List ℕ
-chunkPlaces e = cond (eqb (kind (e .header)) 1) (packetPlaces (size (e .header) / packetWidth) (e .position .0 + 2)) []
+chunkPlaces e = cond (eqb (kind (e .header)) 1) (packetPlaces (size (e .header) / packetWidth) (e .position .0 + headerWidth)) []
 
 -- the packets of these chunks, in order
 unfoldable pub placesOf : List Entry → List ℕ

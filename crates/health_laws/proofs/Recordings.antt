@@ -2,7 +2,7 @@
 -- there on, which begin with a written packet; so the search goes through the packets as they were written, and what it finds is theirs to say.
 use mathlib.Core.Path.{_≡_, refl, sym, ap, _∙_}
 use mathlib.Core.Bool.{Bool, true, false, not, _&&_}
-use mathlib.Core.List.{List, [], _∷_, _++_, append-nil, append-assoc}
+use mathlib.Core.List.{List, [], _∷_, _++_, map, append-nil, append-assoc}
 use Prim.Native.Nat.{ℕ, _+_, _*_, _/_}
 use native.Mathlib.Omega.{arith}
 use lib.ListN.{length, take, drop, length-append, take-append-drop}
@@ -13,14 +13,17 @@ use Rattle.base.proofs.Booleans.{and-left, and-right}
 use Rattle.chunk.specs.declared.Entry.{Entry}
 use Rattle.chunk.specs.Header.{kind, size, span}
 use Rattle.chunk.specs.Reading.{entry}
-use Rattle.chunk_laws.specs.Stretch.{words, offset, entries, whole, wholeRow}
+use Rattle.chunk_laws.specs.Stretch.{Laid, words, offset, entries, whole, wholeRow}
+use Rattle.chunk_laws.specs.Written.{Accepted, recorded}
 use Rattle.chunk_laws.proofs.Tests.{and-both, by-test}
 use Rattle.chunk_laws.proofs.Rows.{whole-length, row-first, row-rest, row-drop, lists-row}
+use Rattle.chunk_laws.proofs.Written.{laid, kind-written, accepted-taken, row-whole, recorded-words}
 use Rattle.health.specs.Packet.{packetType}
 use Rattle.health_last.specs.Packets.{foundAt, nowhere, packetPlaces, chunkPlaces, placesOf, soundOf, later, lastWhere}
+use Rattle.health_last.specs.Last.{inScience}
 use Rattle.health_last.proofs.Later.{last-append}
 use Rattle.health_laws.specs.Written.{written}
-use Rattle.health_laws.specs.Recordings.{Packet, packets, noneOf, LastInHealth, NoneInHealth, Carrier, chunks, allCarried, LastInScience, NoneInScience}
+use Rattle.health_laws.specs.Recordings.{Packet, packets, noneOf, LastInHealth, NoneInHealth, Carrier, calls, allCarried, LastInScience, NoneInScience}
 use Rattle.health_laws.proofs.RoundTrip.{accepted-parts, written-packet, left-is-sound}
 
 -- ---- one packet
@@ -99,29 +102,42 @@ none-in-health t ps k =
 
 -- ---- a chunk and its packets
 
-module _ (c : Carrier) (k : whole (c .chunk) ≡ true) where
-  abbrev header : ℕ
-  header = c .chunk .header
+-- the chunk that a call wrote, and those of a row
+abbrev chunk : Carrier → Laid
+chunk c = laid (c .call)
 
-  by-kind : {P : Type 0} → (kind header ≡ 0 → P) → (kind header ≡ 1 → P) → P
-  by-kind image health = by-test (eqb (kind header) 1) (λ e. health (eqb-true (kind header) 1 e)) (λ e. image (omega (arith, eqb-false (kind header) 1 e)))
+abbrev chunks : List Carrier → List Laid
+chunks cs = map laid (calls cs)
+
+module _ (c : Carrier) (k : whole (chunk c) ≡ true) where
+  abbrev header : ℕ
+  header = chunk c .header
+
+  kind-told : kind header ≡ c .call .kind
+  kind-told = kind-written (c .call .kind) (c .call .camera) (c .call .payload) (accepted-taken (c .call) (c .accepted))
+
+  by-kind : {P : Type 0} → (kind header ≡ 0 → c .carried ≡ [] → P) → (kind header ≡ 1 → c .call .payload ≡ packets (c .carried) → P) → P
+  by-kind image health =
+      by-test (eqb (kind header) 1)
+      (λ e. let one = eqb-true (kind header) 1 e in health one (c .health (sym kind-told ∙ one)))
+      (λ e. let zero : kind header ≡ 0 = omega (arith, eqb-false (kind header) 1 e) in image zero (c .image (sym kind-told ∙ zero)))
 
   -- the packets of the chunk are those that it carries
   carried-places : (at : ℕ) → chunkPlaces (entry at header) ≡ packetPlaces (length (c .carried)) (at + 2)
   unfolding chunkPlaces packetPlaces
   carried-places at =
       by-kind
-      (λ e. rw (ne-eqb (kind header) 1 (λ z. omega (arith, e, z)), c .image e))
-      (λ e.
-      let n : size header / 32 ≡ length (c .carried) = omega (arith, whole-length (c .chunk) k, ap length (c .health e), packets-length (c .carried)) in
+      (λ e none. rw (ne-eqb (kind header) 1 (λ z. omega (arith, e, z)), none))
+      (λ e all.
+      let n : size header / 32 ≡ length (c .carried) = omega (arith, whole-length (chunk c) k, ap length all, packets-length (c .carried)) in
       rw (eq-eqb (kind header) 1 e, n))
 
   -- and they stand at the front of its payload
-  carried-first : (tail : List ℕ) → take (length (packets (c .carried))) (c .chunk .payload ++ tail) ≡ packets (c .carried)
+  carried-first : (tail : List ℕ) → take (length (packets (c .carried))) (c .call .payload ++ tail) ≡ packets (c .carried)
   carried-first tail =
       by-kind
-      (λ e. rw (c .image e))
-      (λ e. rw (c .health e) (take-append-seam (packets (c .carried)) tail))
+      (λ e none. rw none)
+      (λ e all. rw all (take-append-seam (packets (c .carried)) tail))
 
 -- ---- a row of chunks that stands at a place
 
@@ -129,30 +145,30 @@ module _ (sync : ℕ) (ws : List ℕ) (at : ℕ) (c : Carrier) (cs : List Carrie
   abbrev tail : List ℕ
   tail = words sync (chunks cs)
 
-  first-whole : whole (c .chunk) ≡ true
-  first-whole = row-first (c .chunk) (chunks cs) k
+  first-whole : whole (chunk c) ≡ true
+  first-whole = row-first (chunk c) (chunks cs) k
 
   rest-whole : wholeRow (chunks cs) ≡ true
-  rest-whole = row-rest (c .chunk) (chunks cs) k
+  rest-whole = row-rest (chunk c) (chunks cs) k
 
   -- the packets stand past the header, and the other chunks past the chunk
-  packets-there : drop (at + 2) ws ≡ packets (c .carried) ++ drop (length (packets (c .carried))) (c .chunk .payload ++ tail)
+  packets-there : drop (at + 2) ws ≡ packets (c .carried) ++ drop (length (packets (c .carried))) (c .call .payload ++ tail)
   packets-there =
       let n = length (packets (c .carried)) in
-      sym (drop-drop 2 at ws) ∙ ap (drop 2) e ∙ sym (take-append-drop n (c .chunk .payload ++ tail))
-      ∙ ap (λ (x : List ℕ). x ++ drop n (c .chunk .payload ++ tail)) (carried-first c first-whole tail)
+      sym (drop-drop 2 at ws) ∙ ap (drop 2) e ∙ sym (take-append-drop n (c .call .payload ++ tail))
+      ∙ ap (λ (x : List ℕ). x ++ drop n (c .call .payload ++ tail)) (carried-first c first-whole tail)
 
-  rest-there : drop (at + span (c .chunk .header)) ws ≡ tail
-  rest-there = sym (drop-drop (span (c .chunk .header)) at ws) ∙ ap (drop (span (c .chunk .header))) e ∙ row-drop sync (c .chunk) (chunks cs) first-whole
+  rest-there : drop (at + span (chunk c .header)) ws ≡ tail
+  rest-there = sym (drop-drop (span (chunk c .header)) at ws) ∙ ap (drop (span (chunk c .header))) e ∙ row-drop sync (chunk c) (chunks cs) first-whole
 
   -- the last packet is in the other chunks, or else in the first
   by-chunk : (t : ℕ) → lastWhere (soundOf ws t) (placesOf (entries at (chunks (c ∷ cs))))
-      ≡ later (lastWhere (soundOf ws t) (placesOf (entries (at + span (c .chunk .header)) (chunks cs))))
+      ≡ later (lastWhere (soundOf ws t) (placesOf (entries (at + span (chunk c .header)) (chunks cs))))
       (lastWhere (soundOf ws t) (packetPlaces (length (c .carried)) (at + 2)))
   unfolding placesOf
   by-chunk t =
       let f = soundOf ws t in
-      last-append f (chunkPlaces (entry at (c .chunk .header))) (placesOf (entries (at + span (c .chunk .header)) (chunks cs)))
+      last-append f (chunkPlaces (entry at (chunk c .header))) (placesOf (entries (at + span (chunk c .header)) (chunks cs)))
       ∙ rw (carried-places c first-whole at)
 
 -- ---- none, and the last one, in a row of chunks
@@ -171,7 +187,7 @@ none-in-chunks t sync ws at (c ∷ cs) k e n =
     let parts = none-append t (c .carried) (allCarried cs) n in
     by-chunk sync ws at c cs k e t
     ∙ rw (
-      none-in-chunks t sync ws (at + span (c .chunk .header)) cs (rest-whole sync ws at c cs k e) (rest-there sync ws at c cs k e) (parts .1),
+      none-in-chunks t sync ws (at + span (chunk c .header)) cs (rest-whole sync ws at c cs k e) (rest-there sync ws at c cs k e) (parts .1),
       none-in-row t ws (at + 2) (c .carried) _ (packets-there sync ws at c cs k e) (parts .0),
     )
 
@@ -186,7 +202,7 @@ last-in-chunks sync ws at [] c after earlier p later k e carries n =
     let there = packets-there sync ws at c after k e in
     by-chunk sync ws at c after k e (p .type)
     ∙ rw (
-      none-in-chunks (p .type) sync ws (at + span (c .chunk .header)) after (rest-whole sync ws at c after k e) (rest-there sync ws at c after k e) (parts .1),
+      none-in-chunks (p .type) sync ws (at + span (chunk c .header)) after (rest-whole sync ws at c after k e) (rest-there sync ws at c after k e) (parts .1),
       carries,
     )
     (last-in-row ws (at + 2) earlier p later _ (rw carries at there) (parts .0) ∙ ap foundAt (omega arith))
@@ -194,17 +210,34 @@ last-in-chunks sync ws at (b ∷ before) c after earlier p later k e carries n =
     let cs = before ++ c ∷ after in
     by-chunk sync ws at b cs k e (p .type)
     ∙ rw (
-    last-in-chunks sync ws (at + span (b .chunk .header)) before c after earlier p later (rest-whole sync ws at b cs k e) (rest-there sync ws at b cs k e) carries n
+    last-in-chunks sync ws (at + span (chunk b .header)) before c after earlier p later (rest-whole sync ws at b cs k e) (rest-there sync ws at b cs k e) carries n
     )
-    (ap foundAt (omega (arith, length-append (b .chunk .payload) (words sync (chunks before)), whole-length (b .chunk) (first-whole sync ws at b cs k e))))
+    (ap foundAt (omega (arith, length-append (b .call .payload) (words sync (chunks before)), whole-length (chunk b) (first-whole sync ws at b cs k e))))
+
+-- ---- so in a recording that the chunk writer wrote
+
+all-accepted : (cs : List Carrier) → Accepted (calls cs)
+all-accepted [] = tt
+all-accepted (c ∷ cs) = (c .accepted, all-accepted cs)
+
+module _ (sync : ℕ) (cs : List Carrier) where
+  chunks-whole : wholeRow (chunks cs) ≡ true
+  chunks-whole = row-whole (calls cs) (all-accepted cs)
+
+  as-chunks : recorded sync (calls cs) ≡ words sync (chunks cs)
+  as-chunks = recorded-words sync (calls cs) (all-accepted cs)
+
+  by-entries : (t : ℕ) → inScience sync (recorded sync (calls cs)) t ≡ lastWhere (soundOf (words sync (chunks cs)) t) (placesOf (entries 0 (chunks cs)))
+  by-entries t =
+      ap (λ (ws : List ℕ). inScience sync ws t) as-chunks
+      ∙ ap (λ (es : List Entry). lastWhere (soundOf (words sync (chunks cs)) t) (placesOf es)) (lists-row sync 0 (chunks cs) chunks-whole)
 
 pub last-in-science : LastInScience
-last-in-science sync before c after earlier p later k carries n =
-    let cs = chunks (before ++ c ∷ after) in
-    ap (λ (es : List Entry). lastWhere (soundOf (words sync cs) (p .type)) (placesOf es)) (lists-row sync 0 cs k)
-    ∙ last-in-chunks sync (words sync cs) 0 before c after earlier p later k refl carries n ∙ ap foundAt (omega arith)
+last-in-science sync before c after earlier p later carries n =
+    let cs = before ++ c ∷ after in
+    by-entries sync cs (p .type)
+    ∙ last-in-chunks sync (words sync (chunks cs)) 0 before c after earlier p later (chunks-whole sync cs) refl carries n
+    ∙ ap foundAt (omega (arith, ap length (as-chunks sync before)))
 
 pub none-in-science : NoneInScience
-none-in-science sync t cs k n =
-    ap (λ (es : List Entry). lastWhere (soundOf (words sync (chunks cs)) t) (placesOf es)) (lists-row sync 0 (chunks cs) k)
-    ∙ none-in-chunks t sync (words sync (chunks cs)) 0 cs k refl n
+none-in-science sync t cs n = by-entries sync cs t ∙ none-in-chunks t sync (words sync (chunks cs)) 0 cs (chunks-whole sync cs) refl n

@@ -7,15 +7,15 @@ use native.Mathlib.Omega.{arith}
 use lib.ListN.{replicate}
 use Rattle.base.specs.Refusal.{answer, settled}
 use Rattle.base_room.specs.Room.{put}
-use Rattle.chunk.specs.Header.{legalSize, legal}
-use Rattle.chunk_laws.specs.Stretch.{wholeRow}
+use Rattle.chunk.specs.Header.{legalSize}
+use Rattle.chunk_laws.specs.Written.{Call, reply}
 use Rattle.crc.specs.Crc.{crcBit, crcStep}
 use Rattle.health.specs.Writing.{writtenCrc, packetFrom, writeRoom}
 use Rattle.health_observation.specs.declared.Mode.{Mode}
 use Rattle.health_observation.specs.declared.Observed.{Observed}
 use Rattle.health_laws.specs.Written.{Accepted}
 use Rattle.health_laws.specs.Fields.{observationWords, Observation}
-use Rattle.health_laws.specs.Recordings.{Packet, packets, Carrier, chunks}
+use Rattle.health_laws.specs.Recordings.{Packet, packets, Carrier}
 
 -- period 4, exposure 3, mode normal, RICE_EN, RICE_DT and FLAT_EN, region map 2
 abbrev pub observed : Observed
@@ -68,15 +68,12 @@ accepted = refl
 abbrev pub packet : Packet
 packet = record { type = 4; time = 0x1A2B; words = observationWords observed; room = replicate 32 0; accepted = accepted }
 
-abbrev pub carrier : Carrier
-carrier =
-    record {
-      chunk = record { header = 0x8020; payload = packets (packet ∷ []) };
-      carried = packet ∷ [];
-      image = λ e. absurd (omega (arith, e));
-      health = λ e. refl;
-    }
+abbrev pub call : Call
+call = record { kind = 1; camera = 0; payload = packets (packet ∷ []); room = replicate 34 0 }
 
-pub whole : wholeRow (chunks (carrier ∷ [])) ≡ true
-unfolding wholeRow legal legalSize writeRoom answer put
-whole = refl
+pub chunkAccepted : reply call .refusal ≡ 0
+unfolding settled answer legalSize writeRoom put
+chunkAccepted = refl
+
+abbrev pub carrier : Carrier
+carrier = record { call = call; accepted = chunkAccepted; carried = packet ∷ []; image = λ e. absurd (omega (arith, e)); health = λ e. refl }

@@ -5,8 +5,8 @@ use mathlib.Core.Bool.{Bool, true, not, _&&_}
 use mathlib.Core.List.{List, [], _∷_, _++_}
 use lib.ListN.{length}
 use lib.Dec.{eqb}
-use Rattle.chunk.specs.Header.{kind}
-use Rattle.chunk_laws.specs.Stretch.{Laid, words, offset, wholeRow}
+use Rattle.chunk.specs.Header.{headerWidth}
+use Rattle.chunk_laws.specs.Written.{Call, reply, recorded}
 use Rattle.health_last.specs.Packets.{foundAt, nowhere}
 use Rattle.health_last.specs.Last.{inScience, inHealth}
 use Rattle.health_laws.specs.Written.{Accepted, written}
@@ -42,31 +42,31 @@ NoneInHealth = (t : ℕ) (ps : List Packet) → noneOf t ps ≡ true → inHealt
 
 -- ---- a science recording
 
--- A chunk and the packets that it carries: none in an image chunk; in a health chunk they are the payload.
+-- A chunk that its writer accepted, and the packets that it carries: none in an image chunk; in a health chunk they are the payload.
 pub record Carrier : Type 0 where
-  pub chunk : Laid
+  pub call : Call
+  pub accepted : reply call .refusal ≡ 0
   pub carried : List Packet
-  pub image : kind (chunk .header) ≡ 0 → carried ≡ []
-  pub health : kind (chunk .header) ≡ 1 → chunk .payload ≡ packets carried
+  pub image : call .kind ≡ 0 → carried ≡ []
+  pub health : call .kind ≡ 1 → call .payload ≡ packets carried
 
--- the chunks of a row
-abbrev pub chunks : List Carrier → List Laid
-chunks [] = []
-chunks (c ∷ cs) = c .chunk ∷ chunks cs
+-- the calls that wrote a row of chunks
+abbrev pub calls : List Carrier → List Call
+calls [] = []
+calls (c ∷ cs) = c .call ∷ calls cs
 
 -- the packets of a row, in order
 abbrev pub allCarried : List Carrier → List Packet
 allCarried [] = []
 allCarried (c ∷ cs) = c .carried ++ allCarried cs
 
--- the last packet of its type in a row of whole chunks is found where it begins, past the two words of its chunk's header
+-- the last packet of its type is found where it begins, past the chunks before its own and the header
 abbrev pub LastInScience : Type 0
 LastInScience = (sync : ℕ) (before : List Carrier) (c : Carrier) (after : List Carrier) (earlier : List Packet) (p : Packet) (later : List Packet)
-    → wholeRow (chunks (before ++ c ∷ after)) ≡ true → c .carried ≡ earlier ++ p ∷ later → noneOf (p .type) (later ++ allCarried after) ≡ true
-    → inScience sync (words sync (chunks (before ++ c ∷ after))) (p .type)
-    ≡ foundAt (offset sync (chunks before) + 2 + length (packets earlier))
+    → c .carried ≡ earlier ++ p ∷ later → noneOf (p .type) (later ++ allCarried after) ≡ true
+    → inScience sync (recorded sync (calls (before ++ c ∷ after))) (p .type)
+    ≡ foundAt (length (recorded sync (calls before)) + headerWidth + length (packets earlier))
 
 -- and nothing where no packet is of the type
 abbrev pub NoneInScience : Type 0
-NoneInScience = (sync t : ℕ) (cs : List Carrier) → wholeRow (chunks cs) ≡ true → noneOf t (allCarried cs) ≡ true
-    → inScience sync (words sync (chunks cs)) t ≡ nowhere
+NoneInScience = (sync t : ℕ) (cs : List Carrier) → noneOf t (allCarried cs) ≡ true → inScience sync (recorded sync (calls cs)) t ≡ nowhere
