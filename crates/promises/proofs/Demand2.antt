@@ -12,7 +12,7 @@ use Rattle.health_laws.proofs.Lasts.{found-is-last}
 use Rattle.health_laws.proofs.Recordings.{last-in-science, none-in-science, last-in-health, none-in-health}
 use Rattle.command_laws.proofs.ReadBack.{given-back, accepted-alike, judged-alike}
 use Rattle.command_laws.proofs.WrittenAgain.{written-alike}
-use Rattle.frame_laws.proofs.Written.{comes-back}
+use Rattle.frame_laws.proofs.Written.{comes-back, observation-closes}
 use Rattle.frame_laws.proofs.Local.{frames-local, stray-after-gap}
 use Rattle.frame_laws.proofs.Pieces.{pieces-said}
 use Rattle.frame_laws.proofs.Place.{frames-by-place}
@@ -49,6 +49,7 @@ demand-2 =
       rewritten = written-alike;
       frame = comes-back;
       arrived = arrived-hold;
+      closing = observation-closes;
       local = frames-local;
       stray = stray-after-gap;
       pieces = pieces-said;

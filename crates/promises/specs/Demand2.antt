@@ -13,7 +13,7 @@ use Rattle.health_laws.specs.Modes.{Modes}
 use Rattle.health_laws.specs.Last.{FoundIsLast}
 use Rattle.health_laws.specs.Recordings.{LastInScience, NoneInScience, LastInHealth, NoneInHealth}
 use Rattle.command_laws.specs.Agree.{GivenBack, AcceptedAlike, JudgedAlike, WrittenAlike}
-use Rattle.frame_laws.specs.Written.{FramesComeBack}
+use Rattle.frame_laws.specs.Written.{FramesComeBack, ObservationCloses}
 use Rattle.frame_laws.specs.Local.{FramesLocal, StrayAfterGap}
 use Rattle.frame_laws.specs.Pieces.{PiecesSaid}
 use Rattle.frame_laws.specs.Place.{FramesByPlace}
@@ -70,6 +70,8 @@ pub record Demand2 : Type 0 where
   -- a written frame comes back, also with one bit flipped in each of its units
   pub frame : FramesComeBack
   pub arrived : units.ArrivedHold
+  -- and a written observation packet is what closes it
+  pub closing : ObservationCloses
   -- a frame is a matter of its own words alone, and a continuation after a skipped word joins nothing and is stray
   pub local : FramesLocal
   pub stray : StrayAfterGap
