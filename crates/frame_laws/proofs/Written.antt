@@ -25,9 +25,9 @@ use Rattle.chunk_laws.proofs.Tests.{and-both}
 use Rattle.chunk_laws.proofs.Rows.{whole-length, row-first, row-rest, row-confirmed, row-drop, lists-row, row-at, row-listed, payload-there}
 use Rattle.chunk_laws.proofs.Written.{kind-written, camera-written, size-written, written-whole}
 use Rattle.parity_laws.specs.Units.{Hold}
-use Rattle.health.specs.Packet.{permittedType}
 use Rattle.health.specs.Writing.{packetFrom}
-use Rattle.health_laws.proofs.RoundTrip.{written-is-sound}
+use Rattle.health_laws.specs.Written.{written as writtenPacket}
+use Rattle.health_laws.proofs.RoundTrip.{accepted-parts, written-packet, left-is-sound}
 use Rattle.parity_units.specs.Split.{parts, unitsIn, anyDamaged, joinedData, dataWords}
 use Rattle.parity_units.proofs.Split.{joined-length}
 use Rattle.frame.specs.Shape.{starts, continues, whole, joining, frameOf, frameChunks, frameWords, frameCamera, observes, complete}
@@ -313,7 +313,8 @@ comes-back sync cam before (us ∷ uss) health after ds w j k s = frame-back syn
 -- ---- what the packet writer writes
 
 pub observation-closes : ObservationCloses
-observation-closes cam time ws packets l m n =
-    let p : List ℕ = packetFrom (3 + cam) time ws in
-    let t : permittedType (3 + cam) ≡ true = rw (le-leb 1 (3 + cam) (omega arith), le-leb (3 + cam) 15 (omega arith)) in
-    rw (take-at p packets 32 (omega arith), written-is-sound (3 + cam) time ws t n, eq-eqb (3 + cam) (3 + cam) refl)
+observation-closes cam time ws room packets a =
+    let n : length (packetFrom (3 + cam) time ws) ≡ 32 = omega (arith, accepted-parts (3 + cam) time ws room a) in
+    let e = written-packet (3 + cam) time ws room a in
+    let sound = left-is-sound (3 + cam) time ws room a in
+    rw (take-at (writtenPacket (3 + cam) time ws room) packets 32 (ap length e ∙ n), sound) (rw e (eq-eqb (3 + cam) (3 + cam) refl))

@@ -11,7 +11,7 @@ use Rattle.base.specs.Size.{parityWidth, unitWidth}
 use Rattle.chunk_laws.specs.Stretch.{Laid, words, offset, wholeRow}
 use Rattle.chunk_laws.specs.Written.{accepted, written}
 use Rattle.parity_laws.specs.Units.{Hold}
-use Rattle.health.specs.Writing.{packetFrom}
+use Rattle.health_laws.specs.Written.{Accepted, written as writtenPacket}
 use Rattle.frame.specs.Shape.{observes}
 use Rattle.frame.specs.Described.{frame}
 use Rattle.frame_reading.specs.Replies.{atReply, judgeReply, readReply, readRoom}
@@ -76,6 +76,7 @@ FramesComeBack =
     → length (recordingOf sync cam before uss health after) ≤ recordingLimit
     → ComesBack sync cam (offset sync before) (length uss) (recordingOf sync cam before uss health after) ds
 
--- The observation packet of a camera closes its frame: as the packet writer writes it, with any time and any 29 words, and whatever packets come after it.
+-- The observation packet of a camera closes its frame: as the packet writer left it, with any time and words that it accepts, and whatever packets come after.
 abbrev pub ObservationCloses : Type 0
-ObservationCloses = (cam time : ℕ) (ws packets : List ℕ) → 1 ≤ cam → cam ≤ 3 → length ws ≡ 29 → observes (packetFrom (3 + cam) time ws ++ packets) cam ≡ true
+ObservationCloses = (cam time : ℕ) (ws room packets : List ℕ) → Accepted (3 + cam) ws room
+    → observes (writtenPacket (3 + cam) time ws room ++ packets) cam ≡ true
