@@ -1,7 +1,7 @@
 -- What the writer wrote is given back. An accepted call leaves the words of its chunk in the room; the fields of the header word are those that it was
 -- made of, so it is a whole chunk. A row of whole chunks is listed whole, and where each begins no words of another are left, so one is listed there.
 use mathlib.Core.Path.{_≡_, refl, sym, ap, ap₂, _∙_}
-use mathlib.Core.Bool.{true, _&&_, _||_}
+use mathlib.Core.Bool.{Bool, true, _&&_, _||_}
 use mathlib.Core.List.{List, [], _∷_, _++_, map, append-nil}
 use Prim.Native.Nat.{ℕ, suc, _+_, _≤_}
 use native.Mathlib.Omega.{arith}
@@ -27,10 +27,19 @@ use Rattle.chunk_writing.specs.Writing.{writable, writeCauses, headerWord, chun
 use Rattle.chunk_writing.proofs.Wrote.{writable-bounds}
 use Rattle.chunk_register.specs.Register.{listCauses, entered, listReply, listRoom}
 use Rattle.chunk_laws.specs.Stretch.{Laid, words, entries, whole, wholeRow}
-use Rattle.chunk_laws.specs.Written.{Call, reply, left, Accepted, recorded, told, GivenAt, entriesAt, GivenBack, WrittenAlone, WrittenInRows, accepted, written}
+use Rattle.chunk_laws.specs.Written.{WriterCall, reply, written, Accepted, recorded, told, GivenAt, entriesAt, GivenBack, WrittenAlone, WrittenInRows}
 use Rattle.chunk_laws.proofs.Tests.{and-both}
 use Rattle.chunk_laws.proofs.Listed.{place-answered}
 use Rattle.chunk_laws.proofs.Rows.{row-first, row-rest, row-confirmed, row-drop, payload-there, left-rest, lists-row, skips-none}
+
+-- ---- what the writer takes, room aside, and the chunk that it makes of it
+
+-- a kind and a camera of the list, and a payload that is legal for the kind
+abbrev pub accepted : ℕ → ℕ → List ℕ → Bool
+accepted k c payload = writable k c && legalSize k (length payload)
+
+abbrev pub laidOut : ℕ → ℕ → List ℕ → Laid
+laidOut k c payload = record { header = headerWord k c (length payload); payload = payload }
 
 -- ---- the fields of a header word that is made of them
 
@@ -53,7 +62,7 @@ module _ (k c : ℕ) (payload : List ℕ) (w : accepted k c payload ≡ true) wh
   pub size-written : size (headerWord k c (length payload)) ≡ length payload
   size-written = omega (arith, accepted-bounds, small)
 
-  pub written-whole : whole (written k c payload) ≡ true
+  pub written-whole : whole (laidOut k c payload) ≡ true
   unfolding legal
   written-whole =
       rw (kind-written, camera-written, size-written)
@@ -63,10 +72,10 @@ module _ (k c : ℕ) (payload : List ℕ) (w : accepted k c payload ≡ true) wh
 -- ---- an accepted call
 
 -- the chunk that a call writes
-abbrev pub laid : Call → Laid
-laid c = written (c .kind) (c .camera) (c .payload)
+abbrev pub laid : WriterCall → Laid
+laid c = laidOut (c .kind) (c .camera) (c .payload)
 
-module _ (c : Call) (z : reply c .refusal ≡ 0) where
+module _ (c : WriterCall) (z : reply c .refusal ≡ 0) where
   abbrev number : ℕ
   number = verdict (writeCauses (c .kind) (c .camera) (length (c .payload)) (length (c .room)))
 
@@ -89,53 +98,53 @@ module _ (c : Call) (z : reply c .refusal ≡ 0) where
   length-replied = rw (answer-yes number _ _ none-refused)
 
   -- and left the words of its chunk
-  chunk-left : (sync : ℕ) → left sync c ≡ chunkOf sync (c .kind) (c .camera) (c .payload)
+  chunk-written : (sync : ℕ) → written sync c ≡ chunkOf sync (c .kind) (c .camera) (c .payload)
   unfolding writeRoom
-  chunk-left sync =
+  chunk-written sync =
       let ws : List ℕ = chunkOf sync (c .kind) (c .camera) (c .payload) in
       ap₂ (λ (n : ℕ) (l : List ℕ). take n l) length-replied (answer-yes number _ _ none-refused ∙ put-fits ws 0 (c .room) (omega (arith, enough-room)))
       ∙ take-at ws (drop (0 + length ws) (c .room)) (length (c .payload) + 2) (omega arith)
 
 -- ---- a row of accepted calls
 
-pub row-whole : (cs : List Call) → Accepted cs → wholeRow (map laid cs) ≡ true
+pub row-whole : (cs : List WriterCall) → Accepted cs → wholeRow (map laid cs) ≡ true
 unfolding wholeRow
 row-whole [] a = refl
 row-whole (c ∷ cs) a =
     and-both (whole (laid c)) _ (written-whole (c .kind) (c .camera) (c .payload) (accepted-taken c (a .0))) (row-whole cs (a .1))
 
-pub recorded-words : (sync : ℕ) (cs : List Call) → Accepted cs → recorded sync cs ≡ words sync (map laid cs)
+pub recorded-words : (sync : ℕ) (cs : List WriterCall) → Accepted cs → recorded sync cs ≡ words sync (map laid cs)
 recorded-words sync [] a = refl
-recorded-words sync (c ∷ cs) a = ap₂ (λ (xs ys : List ℕ). xs ++ ys) (chunk-left c (a .0) sync) (recorded-words sync cs (a .1))
+recorded-words sync (c ∷ cs) a = ap₂ (λ (xs ys : List ℕ). xs ++ ys) (chunk-written c (a .0) sync) (recorded-words sync cs (a .1))
 
 -- the place past a chunk of the row
-span-replied : (c : Call) → reply c .refusal ≡ 0 → (p : ℕ) → p + span (laid c .header) ≡ p + reply c .length .0
+span-replied : (c : WriterCall) → reply c .refusal ≡ 0 → (p : ℕ) → p + span (laid c .header) ≡ p + reply c .length .0
 span-replied c z p = omega (arith, length-replied c z, size-written (c .kind) (c .camera) (c .payload) (accepted-taken c z))
 
-row-entries : (p : ℕ) (cs : List Call) → Accepted cs → entries p (map laid cs) ≡ entriesAt p cs
+row-entries : (p : ℕ) (cs : List WriterCall) → Accepted cs → entries p (map laid cs) ≡ entriesAt p cs
 row-entries p [] a = refl
 row-entries p (c ∷ cs) a =
     ap (λ (es : List Entry). entry p (laid c .header) ∷ es)
     (ap (λ (n : ℕ). entries n (map laid cs)) (span-replied c (a .0) p) ∙ row-entries (p + reply c .length .0) cs (a .1))
 
-entries-many : (p : ℕ) (cs : List Call) → length (entriesAt p cs) ≡ length cs
+entries-many : (p : ℕ) (cs : List WriterCall) → length (entriesAt p cs) ≡ length cs
 entries-many p [] = refl
 entries-many p (c ∷ cs) = ap suc (entries-many (p + reply c .length .0) cs)
 
 -- what a header word says
-header-told : (c : Call) → reply c .refusal ≡ 0 → headingOf (laid c .header) ≡ told c
+header-told : (c : WriterCall) → reply c .refusal ≡ 0 → headingOf (laid c .header) ≡ told c
 header-told c z =
     let w = accepted-taken c z in
     rw (kind-written (c .kind) (c .camera) (c .payload) w, camera-written (c .kind) (c .camera) (c .payload) w, size-written (c .kind) (c .camera) (c .payload) w)
 
-headers-told : (p : ℕ) (cs : List Call) → Accepted cs → map (λ (e : Entry). headingOf (e .header)) (entriesAt p cs) ≡ map told cs
+headers-told : (p : ℕ) (cs : List WriterCall) → Accepted cs → map (λ (e : Entry). headingOf (e .header)) (entriesAt p cs) ≡ map told cs
 headers-told p [] a = refl
 headers-told p (c ∷ cs) a = ap₂ (λ x xs. x ∷ xs) (header-told c (a .0)) (headers-told (p + reply c .length .0) cs (a .1))
 
 -- ---- what the calls that read answer
 
 -- at each place where the words from there on are a row, and no words of another chunk are left
-each-given : (sync : ℕ) (ws : List ℕ) → length ws ≤ recordingLimit → (p : ℕ) (cs : List Call) → Accepted cs → leftAt sync 0 ws p ≡ 0
+each-given : (sync : ℕ) (ws : List ℕ) → length ws ≤ recordingLimit → (p : ℕ) (cs : List WriterCall) → Accepted cs → leftAt sync 0 ws p ≡ 0
     → drop p ws ≡ words sync (map laid cs) → GivenAt sync ws p cs
 unfolding leftAt
 each-given sync ws short p [] a free here = tt
@@ -162,7 +171,7 @@ each-given sync ws short p (c ∷ cs) a free here =
     )
 
 -- words that are a row of accepted calls, in a recording within the limit
-module _ (sync : ℕ) (ws : List ℕ) (short : length ws ≤ recordingLimit) (cs : List Call) (a : Accepted cs) (e : ws ≡ words sync (map laid cs)) where
+module _ (sync : ℕ) (ws : List ℕ) (short : length ws ≤ recordingLimit) (cs : List WriterCall) (a : Accepted cs) (e : ws ≡ words sync (map laid cs)) where
   list-given : reading sync ws ≡ entriesAt 0 cs
   list-given = ap (reading sync) e ∙ lists-row sync 0 (map laid cs) (row-whole cs a) ∙ row-entries 0 cs a
 
@@ -193,6 +202,6 @@ written-in-rows sync cs a short = given sync (recorded sync cs) short cs a (reco
 -- a chunk alone has 8,186 words at the most
 pub written-alone : WrittenAlone
 written-alone sync c z =
-    let short : length (left sync c) ≤ recordingLimit =
-    omega (arith, ap length (chunk-left c z sync), small (c .kind) (c .camera) (c .payload) (accepted-taken c z)) in
-    given sync (left sync c) short (c ∷ []) (z, tt) (sym (append-nil (left sync c)) ∙ recorded-words sync (c ∷ []) (z, tt))
+    let short : length (written sync c) ≤ recordingLimit =
+    omega (arith, ap length (chunk-written c z sync), small (c .kind) (c .camera) (c .payload) (accepted-taken c z)) in
+    given sync (written sync c) short (c ∷ []) (z, tt) (sym (append-nil (written sync c)) ∙ recorded-words sync (c ∷ []) (z, tt))

@@ -9,10 +9,10 @@ use Rattle.base_room.specs.Room.{put}
 use Rattle.chunk.specs.Header.{legalSize}
 use Rattle.chunk.specs.Examples.{listing}
 use Rattle.chunk_writing.specs.Writing.{writeRoom}
-use Rattle.chunk_laws.specs.Written.{Call, Accepted, recorded}
+use Rattle.chunk_laws.specs.Written.{WriterCall, Accepted, recorded}
 
 -- nine words 0 of camera 1, with more room than is needed, and a health chunk of 32 words 0, with just enough
-abbrev calls : List Call
+abbrev calls : List WriterCall
 calls =
     record { kind = 0; camera = 1; payload = replicate 9 0; room = replicate 20 0xFFFF }
     ∷ record { kind = 1; camera = 0; payload = replicate 32 0; room = replicate 34 0xFFFF } ∷ []

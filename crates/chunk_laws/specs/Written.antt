@@ -1,66 +1,63 @@
 -- FORMAT, "Chunks" and "The three demands": what the writer wrote is given back by the calls that read, alone and in rows.
 use Prim.Native.Nat.{ℕ, _+_, _≤_}
 use mathlib.Core.Path.{_≡_}
-use mathlib.Core.Bool.{Bool, _&&_}
 use mathlib.Core.List.{List, [], _∷_, _++_, map}
 use lib.ListN.{length, take}
 use Rattle.base.specs.Limit.{recordingLimit}
 use Rattle.base.specs.declared.Written.{Written}
 use Rattle.chunk.specs.declared.Entry.{Entry}
-use Rattle.chunk.specs.Header.{legalSize}
 use Rattle.chunk.specs.Reading.{entry}
 use Rattle.chunk_reading.specs.declared.Heading.{Heading}
 use Rattle.chunk_reading.specs.Counting.{surveyed, surveyReply}
 use Rattle.chunk_reading.specs.Place.{heading, headingOf, atReply, payloadReply}
-use Rattle.chunk_writing.specs.Writing.{writable, headerWord, writeReply, writeRoom}
+use Rattle.chunk_writing.specs.Writing.{headerWord, writeReply, writeRoom}
 use Rattle.chunk_register.specs.Register.{entered, listReply, listRoom}
-use Rattle.chunk_laws.specs.Stretch.{Laid}
 
 -- ---- calls of the writer
 
 -- A call of the writer: what it was given, and the room that it was lent.
-pub record Call : Type 0 where
+pub record WriterCall : Type 0 where
   pub kind : ℕ
   pub camera : ℕ
   pub payload : List ℕ
   pub room : List ℕ
 
 -- the writer's reply
-abbrev pub reply : Call → Written
+abbrev pub reply : WriterCall → Written
 reply c = writeReply (c .kind) (c .camera) (length (c .payload)) (length (c .room))
 
 -- the words that it left at the front of the room, as many as it replied
-abbrev pub left : ℕ → Call → List ℕ
-left sync c = take (reply c .length .0) (writeRoom sync (c .kind) (c .camera) (c .payload) (c .room))
+abbrev pub written : ℕ → WriterCall → List ℕ
+written sync c = take (reply c .length .0) (writeRoom sync (c .kind) (c .camera) (c .payload) (c .room))
 
 -- every one of these calls was accepted
-abbrev pub Accepted : List Call → Type 0
+abbrev pub Accepted : List WriterCall → Type 0
 Accepted [] = Unit {0}
 Accepted (c ∷ cs) = (reply c .refusal ≡ 0) × Accepted cs
 
 -- the words that these calls left, end to end
-abbrev pub recorded : ℕ → List Call → List ℕ
+abbrev pub recorded : ℕ → List WriterCall → List ℕ
 recorded sync [] = []
-recorded sync (c ∷ cs) = left sync c ++ recorded sync cs
+recorded sync (c ∷ cs) = written sync c ++ recorded sync cs
 
 -- ---- what the calls that read give back
 
 -- the kind, the camera and the size of a written chunk
-abbrev pub told : Call → Heading
+abbrev pub told : WriterCall → Heading
 told c = heading 0 (c .kind) (c .camera) (length (c .payload))
 
 -- the calls for a place give each chunk back, the first at the place p and each other where the one before it ends
-abbrev pub GivenAt : ℕ → List ℕ → ℕ → List Call → Type 0
+abbrev pub GivenAt : ℕ → List ℕ → ℕ → List WriterCall → Type 0
 GivenAt sync ws p [] = Unit {0}
 GivenAt sync ws p (c ∷ cs) = (atReply sync ws p ≡ told c) × (payloadReply sync ws p ≡ c .payload) × GivenAt sync ws (p + reply c .length .0) cs
 
 -- the entry of each chunk, at the same places
-abbrev pub entriesAt : ℕ → List Call → List Entry
+abbrev pub entriesAt : ℕ → List WriterCall → List Entry
 entriesAt p [] = []
 entriesAt p (c ∷ cs) = entry p (headerWord (c .kind) (c .camera) (length (c .payload))) ∷ entriesAt (p + reply c .length .0) cs
 
 -- The words of a recording give back what these calls wrote.
-pub record GivenBack (sync : ℕ) (ws : List ℕ) (cs : List Call) : Type 0 where
+pub record GivenBack (sync : ℕ) (ws : List ℕ) (cs : List WriterCall) : Type 0 where
   -- the survey counts the chunks, and no skipped word
   pub survey : surveyReply sync ws ≡ surveyed 0 (length cs) 0
   -- the calls for a place give kind, camera, size and payload of each
@@ -73,18 +70,8 @@ pub record GivenBack (sync : ℕ) (ws : List ℕ) (cs : List Call) : Type 0 wher
 
 -- a written chunk alone is given back
 abbrev pub WrittenAlone : Type 0
-WrittenAlone = (sync : ℕ) (c : Call) → reply c .refusal ≡ 0 → GivenBack sync (left sync c) (c ∷ [])
+WrittenAlone = (sync : ℕ) (c : WriterCall) → reply c .refusal ≡ 0 → GivenBack sync (written sync c) (c ∷ [])
 
 -- and so is a row of written chunks, of any length within the limit of a recording
 abbrev pub WrittenInRows : Type 0
-WrittenInRows = (sync : ℕ) (cs : List Call) → Accepted cs → length (recorded sync cs) ≤ recordingLimit → GivenBack sync (recorded sync cs) cs
-
--- ---- for the laws of frames: what the writer takes, room aside. That an accepted call gave it this is the law `accepted-taken`.
-
--- a kind and a camera of the list, and a payload that is legal for the kind
-abbrev pub accepted : ℕ → ℕ → List ℕ → Bool
-accepted k c payload = writable k c && legalSize k (length payload)
-
--- the chunk that is written
-abbrev pub written : ℕ → ℕ → List ℕ → Laid
-written k c payload = record { header = headerWord k c (length payload); payload = payload }
+WrittenInRows = (sync : ℕ) (cs : List WriterCall) → Accepted cs → length (recorded sync cs) ≤ recordingLimit → GivenBack sync (recorded sync cs) cs

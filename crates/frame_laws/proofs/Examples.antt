@@ -3,7 +3,7 @@ use mathlib.Core.Path.{_≡_, refl}
 use mathlib.Core.Bool.{true, false}
 use mathlib.Core.List.{[], _∷_, _++_}
 use native.Mathlib.Omega.{arith}
-use Rattle.base.specs.Refusal.{answer, nothingThere, frameCut}
+use Rattle.base.specs.Refusal.{answer, settled, nothingThere, frameCut}
 use Rattle.base_room.specs.Room.{put}
 use Rattle.crc.specs.Crc.{crcBit, crcStep}
 use Rattle.parity_rows.specs.Parity.{xorAll, bitFrom, rowParity, columnParity}
@@ -11,6 +11,7 @@ use Rattle.parity.specs.Unit.{flipped, rowDiffers, columnDiffers, sumAll, first
 use Rattle.parity_units.specs.Split.{parts, anyDamaged, joinedData, dataWords}
 use Rattle.chunk.specs.Header.{legalSize, legal, headed, ends, confirmed}
 use Rattle.chunk.specs.Reading.{listed, listedWords, leftAt, listedAt}
+use Rattle.chunk_writing.specs.Writing.{writeRoom}
 use Rattle.health.specs.Packet.{packetCrc, soundPacket}
 use Rattle.health.specs.Writing.{writtenCrc}
 use Rattle.frame.specs.declared.Piece.{Piece}
@@ -19,8 +20,8 @@ use Rattle.frame.specs.Picture.{unitsOf}
 use Rattle.frame.specs.Described.{frame, described}
 use Rattle.frame.specs.Pieces.{framesAndStrays, firstPiece, nextPiece}
 use Rattle.frame_reading.specs.Replies.{refused, atReply, judgeReply, readReply, readRoom}
-use Rattle.frame_laws.specs.Written.{joined, unitRow, writable, fullButLast, Written}
-use Rattle.frame_laws.specs.Examples.{sync, unit, packet, image, continuation, health, Examples}
+use Rattle.frame_laws.specs.Written.{joined, unitRow, unitRows, fullButLast, WrittenFrame, recordingOf}
+use Rattle.frame_laws.specs.Examples.{sync, unit, packet, image, continuation, health, imageOf, healthCall, Examples}
 
 completes : (atReply sync (image 0x8000 ++ health 4) 0 ≡ frame 0 1 1 true 1)
     × (readReply sync (image 0x8000 ++ health 4) 0 2 ≡ frame 0 1 1 true 1)
@@ -49,13 +50,35 @@ steps : (nextPiece sync (image 0x8000 ++ continuation 0x8000) 0 ≡ Piece.Frame 
 unfolding firstPiece framesAndStrays described complete closes frameChunks frameOf joining unitsOf parts dataWords listed listedWords confirmed headed ends legal legalSize soundPacket packetCrc crcBit crcStep
 steps = (refl, refl, refl, refl)
 
-writes : Written 1 ((unit 0x8000 ∷ []) ∷ []) (packet 4) ((0x8000 ∷ []) ∷ [])
-unfolding writable unitRow joined fullButLast unitData judgeVerdict flipped finding fiveCases firstOf sumAll rowDiffers columnDiffers rowParity columnParity bitFrom xorAll legalSize soundPacket packetCrc writtenCrc crcBit crcStep
-writes = record { ofCamera = omega arith; image = refl; full = refl; closing = refl; observed = refl; hold = (refl, refl, tt) }
+writes : WrittenFrame 1 (imageOf 0x8000 ∷ []) healthCall ((0x8000 ∷ []) ∷ [])
+unfolding settled answer unitRows unitRow joined fullButLast unitData judgeVerdict flipped finding fiveCases firstOf sumAll rowDiffers columnDiffers rowParity columnParity bitFrom xorAll legalSize soundPacket packetCrc writtenCrc crcBit crcStep
+writes =
+    record {
+      ofCamera = omega arith;
+      units = refl;
+      full = refl;
+      closing = refl;
+      observed = refl;
+      accepted = (refl, (refl, tt));
+      hold = (refl, refl, tt);
+    }
 
-hits : Written 1 ((unit 0 ∷ []) ∷ []) (packet 4) ((0x8000 ∷ []) ∷ [])
-unfolding writable unitRow joined fullButLast unitData judgeVerdict flipped finding fiveCases firstOf sumAll rowDiffers columnDiffers rowParity columnParity bitFrom xorAll legalSize soundPacket packetCrc writtenCrc crcBit crcStep
-hits = record { ofCamera = omega arith; image = refl; full = refl; closing = refl; observed = refl; hold = (refl, refl, tt) }
+hits : WrittenFrame 1 (imageOf 0 ∷ []) healthCall ((0x8000 ∷ []) ∷ [])
+unfolding settled answer unitRows unitRow joined fullButLast unitData judgeVerdict flipped finding fiveCases firstOf sumAll rowDiffers columnDiffers rowParity columnParity bitFrom xorAll legalSize soundPacket packetCrc writtenCrc crcBit crcStep
+hits =
+    record {
+      ofCamera = omega arith;
+      units = refl;
+      full = refl;
+      closing = refl;
+      observed = refl;
+      accepted = (refl, (refl, tt));
+      hold = (refl, refl, tt);
+    }
+
+records : recordingOf sync 1 [] (imageOf 0x8000 ∷ []) healthCall [] ≡ image 0x8000 ++ health 4
+unfolding settled answer put writeRoom joined legalSize
+records = refl
 
 pub examples : Examples
-examples = record { complete = completes; repaired = repairs; cut = cuts; stray = strays; stepped = steps; written = writes; hurt = hits }
+examples = record { complete = completes; repaired = repairs; cut = cuts; stray = strays; stepped = steps; written = writes; hurt = hits; recorded = records }

@@ -2,7 +2,7 @@
 -- is a health chunk; and each payload splits into the units that it was joined of.
 use mathlib.Core.Path.{_≡_, refl, sym, ap, ap₂, _∙_}
 use mathlib.Core.Bool.{Bool, true, false, _&&_, false≢true, and-false}
-use mathlib.Core.List.{List, [], _∷_, _++_, append-nil}
+use mathlib.Core.List.{List, [], _∷_, _++_, map, append-nil, append-assoc}
 use Prim.Native.Nat.{ℕ, suc, _+_, _*_, _/_, _%_, _≤_}
 use native.Mathlib.Omega.{arith}
 use native.Mathlib.Nat.{zero-add}
@@ -17,16 +17,17 @@ use Rattle.base.specs.Limit.{recordingLimit, tooLong}
 use Rattle.base.proofs.Refused.{answer-yes}
 use Rattle.chunk.specs.declared.Entry.{Entry}
 use Rattle.chunk.specs.Header.{size, kind, span, legalSize, confirmed}
-use Rattle.chunk.specs.Reading.{entry, listedWords}
+use Rattle.chunk.specs.Reading.{entry, listedWords, listedAt}
+use Rattle.chunk_writing.specs.Writing as writes
 use Rattle.chunk_writing.specs.Writing.{headerWord}
 use Rattle.chunk_laws.specs.Stretch.{Laid, words, offset, entries, whole as wholeChunk, wholeRow}
-use Rattle.chunk_laws.specs.Written.{accepted, written}
+use Rattle.chunk_laws.specs.Written.{WriterCall, reply, Accepted, recorded}
 use Rattle.chunk_laws.proofs.Tests.{and-both}
-use Rattle.chunk_laws.proofs.Rows.{whole-length, row-first, row-rest, row-confirmed, row-drop, lists-row, row-at, row-listed, payload-there}
-use Rattle.chunk_laws.proofs.Written.{kind-written, camera-written, size-written, written-whole}
+use Rattle.chunk_laws.proofs.Rows.{whole-length, row-first, row-rest, row-confirmed, row-drop, lists-row, words-parts, row-at, row-listed, payload-there}
+use Rattle.chunk_laws.proofs.Written.{accepted, laidOut, kind-written, camera-written, size-written, written-whole, laid, accepted-taken, recorded-words}
 use Rattle.parity_laws.specs.Units.{Hold}
 use Rattle.health.specs.Writing.{packetFrom}
-use Rattle.health_laws.specs.Written.{written as writtenPacket}
+use Rattle.health_laws.specs.Written as packet
 use Rattle.health_laws.proofs.RoundTrip.{accepted-parts, written-packet, left-is-sound}
 use Rattle.parity_units.specs.Split.{parts, unitsIn, anyDamaged, joinedData, dataWords}
 use Rattle.parity_units.proofs.Split.{joined-length}
@@ -37,7 +38,7 @@ use Rattle.frame.specs.Walk.{startsFrame, closesFrame}
 use Rattle.frame_reading.specs.Replies.{refused, noFrame, atCauses, judgeCauses, readCauses, atReply, judgeReply, readReply, readRoom}
 use Rattle.frame.proofs.Joining.{joining-one}
 use Rattle.frame.proofs.Walking.{complete-at-end}
-use Rattle.frame_laws.specs.Written.{joined, unitRow, frameRow, writable, fullButLast, allUnits, Written, recordingOf, ComesBack, FramesComeBack, ObservationCloses}
+use Rattle.frame_laws.specs.Written.{joined, unitRow, unitRows, fullButLast, allUnits, Image, chunkUnits, frameCalls, WrittenFrame, recordingOf, ComesBack, FramesComeBack, ObservationCloses}
 
 -- ---- a payload splits into its units
 
@@ -108,11 +109,20 @@ entry-count : (at : ℕ) (cs : List Laid) → length (entries at cs) ≡ length 
 entry-count at [] = refl
 entry-count at (c ∷ cs) = ap suc (entry-count (at + span (c .header)) cs)
 
-chunk-count : (cam : ℕ) (uss : List (List (List ℕ))) → length (frameRow cam uss) ≡ length uss
-chunk-count cam [] = refl
-chunk-count cam (us ∷ uss) = ap suc (chunk-count 0 uss)
+-- ---- the chunks of a frame, each given by its units
 
--- ---- the chunks of a frame
+abbrev frameRow : ℕ → List (List (List ℕ)) → List Laid
+frameRow cam [] = []
+frameRow cam (us ∷ uss) = laidOut 0 cam (joined us) ∷ frameRow 0 uss
+
+-- every chunk is a row of units, which the chunk writer takes
+unfoldable writable : ℕ → List (List (List ℕ)) → Bool
+writable cam [] = true
+writable cam (us ∷ uss) = unitRow us && accepted 0 cam (joined us) && writable 0 uss
+
+chunk-count : (cam : ℕ) (is : List Image) → length (frameRow cam (chunkUnits is)) ≡ length is
+chunk-count cam [] = refl
+chunk-count cam (i ∷ is) = ap suc (chunk-count 0 is)
 
 module _ (cam : ℕ) (us : List (List ℕ)) (uss : List (List (List ℕ))) (w : writable cam (us ∷ uss) ≡ true) where
   row-units : unitRow us ≡ true
@@ -131,7 +141,7 @@ frame-whole : (cam : ℕ) (uss : List (List (List ℕ))) → writable cam uss �
 unfolding wholeRow
 frame-whole cam [] w = refl
 frame-whole cam (us ∷ uss) w =
-    and-both (wholeChunk (written 0 cam (joined us))) _ (written-whole 0 cam (joined us) (taken cam us uss w)) (frame-whole 0 uss (others cam us uss w))
+    and-both (wholeChunk (laidOut 0 cam (joined us))) _ (written-whole 0 cam (joined us) (taken cam us uss w)) (frame-whole 0 uss (others cam us uss w))
 
 -- they hold its units
 frame-units : (sync at cam : ℕ) (v : List ℕ) (uss : List (List (List ℕ))) (rest : List Laid) → writable cam uss ≡ true
@@ -139,7 +149,7 @@ frame-units : (sync at cam : ℕ) (v : List ℕ) (uss : List (List (List ℕ))) 
 unfolding unitsOf
 frame-units sync at cam v [] rest w e = refl
 frame-units sync at cam v (us ∷ uss) rest w e =
-    let c : Laid = written 0 cam (joined us) in
+    let c : Laid = laidOut 0 cam (joined us) in
     let h : ℕ = c .header in
     let k : wholeChunk c ≡ true = written-whole 0 cam (joined us) (taken cam us uss w) in
     let n : size h ≡ length (joined us) = sym (whole-length c k) in
@@ -171,14 +181,43 @@ joins-own health after k cam us (vs ∷ uss) w f end =
     ∙ ap (λ (es : List Entry). entry end h ∷ es)
     (joins-own health after k 0 vs uss (others cam us (vs ∷ uss) w) (and-right (eqb (length (joined us) % 264) 0) _ f) (end + span h))
 
+-- ---- they are what accepted calls of the chunk writer left
+
+rows-taken : (cam : ℕ) (is : List Image) (health : WriterCall) → unitRows (chunkUnits is) ≡ true → Accepted (frameCalls cam is health)
+    → (writable cam (chunkUnits is) ≡ true) × (reply health .refusal ≡ 0)
+unfolding writable unitRows
+rows-taken cam [] health u a = (refl, a .0)
+rows-taken cam (i ∷ is) health u a =
+    let more = rows-taken 0 is health (and-right (unitRow (i .units)) _ u) (a .1) in
+    let call : WriterCall = record { kind = 0; camera = cam; payload = joined (i .units); room = i .room } in (
+      and-both (unitRow (i .units) && accepted 0 cam (joined (i .units))) _
+          (and-both (unitRow (i .units)) _ (and-left (unitRow (i .units)) _ u) (accepted-taken call (a .0)))
+          (more .0),
+      more .1,
+    )
+
+calls-laid : (cam : ℕ) (is : List Image) (health : WriterCall) → map laid (frameCalls cam is health) ≡ frameRow cam (chunkUnits is) ++ laid health ∷ []
+calls-laid cam [] health = refl
+calls-laid cam (i ∷ is) health = ap (λ (cs : List Laid). laidOut 0 cam (joined (i .units)) ∷ cs) (calls-laid 0 is health)
+
+recording-words : (sync cam : ℕ) (before : List Laid) (is : List Image) (health : WriterCall) (after : List Laid) → Accepted (frameCalls cam is health)
+    → recordingOf sync cam before is health after ≡ words sync (before ++ (frameRow cam (chunkUnits is) ++ laid health ∷ after))
+recording-words sync cam before is health after a =
+    let row : List Laid = frameRow cam (chunkUnits is) in
+    ap (λ (l : List ℕ). words sync before ++ l)
+    (ap (λ (l : List ℕ). l ++ words sync after) (recorded-words sync (frameCalls cam is health) a ∙ ap (words sync) (calls-laid cam is health))
+    ∙ sym (words-parts sync (row ++ laid health ∷ []) after)
+    ∙ ap (words sync) (append-assoc row (laid health ∷ []) after))
+    ∙ sym (words-parts sync before (row ++ laid health ∷ after))
+
 -- ---- the health chunk after it
 
 -- a health payload has a packet at the least, which is the same before other words
-observes-front : (cam : ℕ) (health rest : List ℕ) → accepted 1 0 health ≡ true → observes (health ++ rest) cam ≡ observes health cam
+observes-front : (cam camera : ℕ) (health rest : List ℕ) → accepted 1 camera health ≡ true → observes (health ++ rest) cam ≡ observes health cam
 unfolding legalSize
-observes-front cam health rest a =
+observes-front cam camera health rest a =
     let n : ℕ = length health in
-    let s : legalSize 1 n ≡ true = and-right true _ a in
+    let s : legalSize 1 n ≡ true = and-right (writes.writable 1 camera) _ a in
     let b : 1 ≤ n = leb-true 1 n (and-left (leb 1 n) _ (and-left (leb 1 n && leb n 8190) _ s)) in
     let c : n % 32 ≡ 0 = eqb-true (n % 32) 0 (and-right (leb 1 n && leb n 8190) _ s) in
     let l : 32 ≤ n = omega arith in
@@ -186,10 +225,25 @@ observes-front cam health rest a =
 
 -- ---- the frame comes back
 
-module _ (sync cam : ℕ) (us : List (List ℕ)) (uss : List (List (List ℕ))) (health : List ℕ) (after : List Laid) (ds : List (List ℕ))
-    (w : Written cam (us ∷ uss) health ds) (k : wholeRow after ≡ true) where
+module _ (sync cam : ℕ) (i : Image) (is : List Image) (health : WriterCall) (after : List Laid) (ds : List (List ℕ))
+    (w : WrittenFrame cam (i ∷ is) health ds) (k : wholeRow after ≡ true) where
+  abbrev us : List (List ℕ)
+  us = i .units
+
+  abbrev uss : List (List (List ℕ))
+  uss = chunkUnits is
+
   abbrev closing : Laid
-  closing = written 1 0 health
+  closing = laid health
+
+  image-taken : writable cam (us ∷ uss) ≡ true
+  image-taken = rows-taken cam (i ∷ is) health (w .units) (w .accepted) .0
+
+  closing-taken : accepted (health .kind) (health .camera) (health .payload) ≡ true
+  closing-taken = accepted-taken health (rows-taken cam (i ∷ is) health (w .units) (w .accepted) .1)
+
+  closing-health : kind (closing .header) ≡ 1
+  closing-health = kind-written (health .kind) (health .camera) (health .payload) closing-taken ∙ w .closing
 
   abbrev row : List Laid
   row = frameRow cam (us ∷ uss)
@@ -202,24 +256,24 @@ module _ (sync cam : ℕ) (us : List (List ℕ)) (uss : List (List (List ℕ))) 
   here = words sync (row ++ closing ∷ after)
 
   row-whole : wholeRow row ≡ true
-  row-whole = frame-whole cam (us ∷ uss) (w .image)
+  row-whole = frame-whole cam (us ∷ uss) image-taken
 
   rest-whole : wholeRow (closing ∷ after) ≡ true
   unfolding wholeRow
-  rest-whole = and-both (wholeChunk closing) _ (written-whole 1 0 health (w .closing)) k
+  rest-whole = and-both (wholeChunk closing) _ (written-whole (health .kind) (health .camera) (health .payload) closing-taken) k
 
   here-whole : wholeRow (row ++ closing ∷ after) ≡ true
   here-whole = row-append row (closing ∷ after) row-whole rest-whole
 
   first-taken : accepted 0 cam (joined us) ≡ true
-  first-taken = taken cam us uss (w .image)
+  first-taken = taken cam us uss image-taken
 
   first-starts : starts first ≡ true
   first-starts = rw (kind-written 0 cam (joined us) first-taken, camera-written 0 cam (joined us) first-taken) (le-leb 1 cam (w .ofCamera))
 
   frame-starts : startsFrame sync here ≡ true
   frame-starts =
-      and-both (confirmed sync here) _ (row-confirmed sync (written 0 cam (joined us)) (frameRow 0 uss ++ closing ∷ after) here-whole) first-starts
+      and-both (confirmed sync here) _ (row-confirmed sync (laidOut 0 cam (joined us)) (frameRow 0 uss ++ closing ∷ after) here-whole) first-starts
 
   own-chunks : frameChunks sync here ≡ entries 0 row
   unfolding frameChunks frameOf
@@ -228,10 +282,10 @@ module _ (sync cam : ℕ) (us : List (List ℕ)) (uss : List (List (List ℕ))) 
       ap frameOf (lists-row sync 0 (row ++ closing ∷ after) here-whole)
       ∙ ap (λ (e : ℕ). entry 0 first ∷ joining e (whole first) (entries (0 + span first) (frameRow 0 uss ++ closing ∷ after))) (sym n)
       ∙ ap (λ (es : List Entry). entry 0 first ∷ es)
-      (joins-own closing after (kind-written 1 0 health (w .closing)) cam us uss (w .image) (w .full) (0 + span first))
+      (joins-own closing after closing-health cam us uss image-taken (w .full) (0 + span first))
 
   own-units : frameUnits sync here ≡ allUnits (us ∷ uss)
-  own-units = ap (unitsOf here) own-chunks ∙ frame-units sync 0 cam here (us ∷ uss) (closing ∷ after) (w .image) refl
+  own-units = ap (unitsOf here) own-chunks ∙ frame-units sync 0 cam here (us ∷ uss) (closing ∷ after) image-taken refl
 
   own-complete : complete sync here ≡ true
   own-complete =
@@ -242,8 +296,8 @@ module _ (sync cam : ℕ) (us : List (List ℕ)) (uss : List (List (List ℕ))) 
       complete-at-end sync here frame-starts ∙ ap₂ (closesFrame sync) e f
       ∙ rw (
         row-confirmed sync closing after rest-whole,
-        kind-written 1 0 health (w .closing),
-        observes-front cam health (words sync after) (w .closing),
+        closing-health,
+        observes-front cam (health .camera) (health .payload) (words sync after) (rw (w .closing) at closing-taken),
       ) (w .observed)
 
   data-joined : joinedData (frameUnits sync here) ≡ joined ds
@@ -252,22 +306,25 @@ module _ (sync cam : ℕ) (us : List (List ℕ)) (uss : List (List (List ℕ))) 
   data-length : dataWords (frameUnits sync here) ≡ length (joined ds)
   data-length = sym (joined-length (frameUnits sync here)) ∙ ap length data-joined
 
-  own-described : described sync here ≡ frame 0 cam (length (us ∷ uss)) true (length (joined ds))
+  own-described : described sync here ≡ frame 0 cam (length (i ∷ is)) true (length (joined ds))
   unfolding described
   own-described =
-      let n : length (frameChunks sync here) ≡ length (us ∷ uss) =
-      ap length own-chunks ∙ entry-count 0 row ∙ chunk-count cam (us ∷ uss) in
+      let n : length (frameChunks sync here) ≡ length (i ∷ is) =
+      ap length own-chunks ∙ entry-count 0 row ∙ chunk-count cam (i ∷ is) in
       rw (camera-written 0 cam (joined us) first-taken, n, own-complete, data-length)
 
-  module _ (before : List Laid) (j : wholeRow before ≡ true) (s : length (recordingOf sync cam before (us ∷ uss) health after) ≤ recordingLimit) where
+  module _ (before : List Laid) (j : wholeRow before ≡ true) (s : length (recordingOf sync cam before (i ∷ is) health after) ≤ recordingLimit) where
     abbrev all : List ℕ
-    all = recordingOf sync cam before (us ∷ uss) health after
+    all = recordingOf sync cam before (i ∷ is) health after
 
     abbrev place : ℕ
     place = offset sync before
 
+    all-words : all ≡ words sync (before ++ (row ++ closing ∷ after))
+    all-words = recording-words sync cam before (i ∷ is) health after (w .accepted)
+
     there : drop place all ≡ here
-    there = row-at sync before (row ++ closing ∷ after) refl
+    there = ap (drop place) all-words ∙ row-at sync before (row ++ closing ∷ after) refl
 
     short : tooLong all ≡ false
     short = le-ltb recordingLimit (length all) s
@@ -275,7 +332,9 @@ module _ (sync cam : ℕ) (us : List (List ℕ)) (uss : List (List (List ℕ))) 
     listed-there : noFrame sync all place ≡ false
     listed-there =
         let r : wholeRow (before ++ (row ++ closing ∷ after)) ≡ true = row-append before (row ++ closing ∷ after) j here-whole in
-        rw (row-listed sync before (written 0 cam (joined us)) (frameRow 0 uss ++ closing ∷ after) r, there, first-starts)
+        let l : listedAt sync all place ≡ true =
+        ap (λ (v : List ℕ). listedAt sync v place) all-words ∙ row-listed sync before (laidOut 0 cam (joined us)) (frameRow 0 uss ++ closing ∷ after) r in
+        rw (l, there, first-starts)
 
     whole-there : complete sync (drop place all) ≡ true
     whole-there = ap (complete sync) there ∙ own-complete
@@ -284,7 +343,7 @@ module _ (sync cam : ℕ) (us : List (List ℕ)) (uss : List (List (List ℕ))) 
     sound-there =
         ap (λ (v : List ℕ). anyDamaged (frameUnits sync v)) there ∙ ap anyDamaged own-units ∙ held-sound (allUnits (us ∷ uss)) ds (w .hold)
 
-    described-there : described sync (drop place all) ≡ frame 0 cam (length (us ∷ uss)) true (length (joined ds))
+    described-there : described sync (drop place all) ≡ frame 0 cam (length (i ∷ is)) true (length (joined ds))
     described-there = ap (described sync) there ∙ own-described
 
     -- nothing is refused, in a room that is large enough
@@ -294,7 +353,7 @@ module _ (sync cam : ℕ) (us : List (List ℕ)) (uss : List (List (List ℕ))) 
         le-ltb m _ (rw (ap (λ (v : List ℕ). dataWords (frameUnits sync v)) there ∙ data-length) l) in
         rw (short, listed-there, whole-there, sound-there, f)
 
-    frame-back : ComesBack sync cam place (length (us ∷ uss)) all ds
+    frame-back : ComesBack sync cam place (length (i ∷ is)) all ds
     unfolding atReply judgeReply readReply readRoom
     frame-back = record {
       described = answer-yes (verdict (atCauses sync all place)) refused _ (rw (short, listed-there)) ∙ described-there;
@@ -308,7 +367,7 @@ module _ (sync cam : ℕ) (us : List (List ℕ)) (uss : List (List (List ℕ))) 
 pub comes-back : FramesComeBack
 unfolding fullButLast
 comes-back sync cam before [] health after ds w j k s = absurd (false≢true (w .full))
-comes-back sync cam before (us ∷ uss) health after ds w j k s = frame-back sync cam us uss health after ds w k before j s
+comes-back sync cam before (i ∷ is) health after ds w j k s = frame-back sync cam i is health after ds w k before j s
 
 -- ---- what the packet writer writes
 
@@ -317,4 +376,4 @@ observation-closes cam time ws room packets a =
     let n : length (packetFrom (3 + cam) time ws) ≡ 32 = omega (arith, accepted-parts (3 + cam) time ws room a) in
     let e = written-packet (3 + cam) time ws room a in
     let sound = left-is-sound (3 + cam) time ws room a in
-    rw (take-at (writtenPacket (3 + cam) time ws room) packets 32 (ap length e ∙ n), sound) (rw e (eq-eqb (3 + cam) (3 + cam) refl))
+    rw (take-at (packet.written (3 + cam) time ws room) packets 32 (ap length e ∙ n), sound) (rw e (eq-eqb (3 + cam) (3 + cam) refl))

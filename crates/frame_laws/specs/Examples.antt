@@ -5,12 +5,13 @@ use mathlib.Core.Bool.{true, false}
 use mathlib.Core.List.{List, [], _∷_, _++_}
 use lib.ListN.{replicate}
 use Rattle.base.specs.Refusal.{nothingThere, frameCut}
+use Rattle.chunk_laws.specs.Written.{WriterCall}
 use Rattle.health.specs.Writing.{packetFrom}
 use Rattle.frame.specs.declared.Piece.{Piece}
 use Rattle.frame.specs.Described.{frame}
 use Rattle.frame.specs.Pieces.{nextPiece}
 use Rattle.frame_reading.specs.Replies.{refused, atReply, judgeReply, readReply, readRoom}
-use Rattle.frame_laws.specs.Written.{Written}
+use Rattle.frame_laws.specs.Written.{Image, WrittenFrame, recordingOf}
 
 abbrev pub sync : ℕ
 sync = 0x5AF3
@@ -33,6 +34,13 @@ continuation word = sync ∷ 0x0009 ∷ unit word
 abbrev pub health : ℕ → List ℕ
 health t = sync ∷ 0x8020 ∷ packet t
 
+-- the image chunk and the health chunk as calls of the chunk writer, each lent one word more than it needs
+abbrev pub imageOf : ℕ → Image
+imageOf word = record { units = unit word ∷ []; room = replicate 12 0 }
+
+abbrev pub healthCall : WriterCall
+healthCall = record { kind = 1; camera = 0; payload = packet 4; room = replicate 35 0 }
+
 pub record Examples : Type 0 where
   -- a packet of type 3 + 1 follows: the frame is complete, and its data go to the room
   pub complete : (atReply sync (image 0x8000 ++ health 4) 0 ≡ frame 0 1 1 true 1)
@@ -53,5 +61,7 @@ pub record Examples : Type 0 where
       × (nextPiece sync (image 0x8000 ++ continuation 0x8000) 22 ≡ Piece.End)
       × (nextPiece sync (image 0x8000 ++ continuation 0x8000) 1 ≡ Piece.Stray (record { 0 = 11 }) (record { 0 = 22 }))
   -- the complete frame is a written one, and so is the one with the bit that was hit
-  pub written : Written 1 ((unit 0x8000 ∷ []) ∷ []) (packet 4) ((0x8000 ∷ []) ∷ [])
-  pub hurt : Written 1 ((unit 0 ∷ []) ∷ []) (packet 4) ((0x8000 ∷ []) ∷ [])
+  pub written : WrittenFrame 1 (imageOf 0x8000 ∷ []) healthCall ((0x8000 ∷ []) ∷ [])
+  pub hurt : WrittenFrame 1 (imageOf 0 ∷ []) healthCall ((0x8000 ∷ []) ∷ [])
+  -- what the calls left that wrote the complete frame
+  pub recorded : recordingOf sync 1 [] (imageOf 0x8000 ∷ []) healthCall [] ≡ image 0x8000 ++ health 4

@@ -9,9 +9,9 @@ use Rattle.base_room.specs.Room.{put}
 use Rattle.base.specs.Limit.{recordingLimit}
 use Rattle.base.specs.Size.{parityWidth, unitWidth}
 use Rattle.chunk_laws.specs.Stretch.{Laid, words, offset, wholeRow}
-use Rattle.chunk_laws.specs.Written.{accepted, written}
+use Rattle.chunk_laws.specs.Written.{WriterCall, Accepted, recorded}
 use Rattle.parity_laws.specs.Units.{Hold}
-use Rattle.health_laws.specs.Written.{Accepted, written as writtenPacket}
+use Rattle.health_laws.specs.Written as packet
 use Rattle.frame.specs.Shape.{observes}
 use Rattle.frame.specs.Described.{frame}
 use Rattle.frame_reading.specs.Replies.{atReply, judgeReply, readReply, readRoom}
@@ -27,15 +27,10 @@ unitRow [] = false
 unitRow (u ∷ []) = leb (suc parityWidth) (length u) && leb (length u) unitWidth
 unitRow (u ∷ v ∷ us) = eqb (length u) unitWidth && unitRow (v ∷ us)
 
--- The chunks of a frame, each given by its units: the first has the camera, the others are continuations.
-abbrev pub frameRow : ℕ → List (List (List ℕ)) → List Laid
-frameRow cam [] = []
-frameRow cam (us ∷ uss) = written 0 cam (joined us) ∷ frameRow 0 uss
-
--- every chunk is a row of units, which the chunk writer takes
-unfoldable pub writable : ℕ → List (List (List ℕ)) → Bool
-writable cam [] = true
-writable cam (us ∷ uss) = unitRow us && accepted 0 cam (joined us) && writable 0 uss
+-- every chunk is a row of units
+unfoldable pub unitRows : List (List (List ℕ)) → Bool
+unitRows [] = true
+unitRows (us ∷ uss) = unitRow us && unitRows uss
 
 -- there is a chunk, and all but the last are a multiple of 264
 unfoldable pub fullButLast : List (List (List ℕ)) → Bool
@@ -48,18 +43,39 @@ abbrev pub allUnits : List (List (List ℕ)) → List (List ℕ)
 allUnits [] = []
 allUnits (us ∷ uss) = us ++ allUnits uss
 
--- A frame of a camera, and after it a health chunk whose first packet observes the camera. Its units hold the data `ds`.
-pub record Written (cam : ℕ) (uss : List (List (List ℕ))) (health : List ℕ) (ds : List (List ℕ)) : Type 0 where
-  pub ofCamera : 1 ≤ cam
-  pub image : writable cam uss ≡ true
-  pub full : fullButLast uss ≡ true
-  pub closing : accepted 1 0 health ≡ true
-  pub observed : observes health cam ≡ true
-  pub hold : Hold (allUnits uss) ds
+-- ---- calls of the chunk writer
 
--- the words of a recording in which they stand after the chunks `before`, with the chunks `after` after them
-abbrev pub recordingOf : ℕ → ℕ → List Laid → List (List (List ℕ)) → List ℕ → List Laid → List ℕ
-recordingOf sync cam before uss health after = words sync (before ++ (frameRow cam uss ++ written 1 0 health ∷ after))
+-- An image chunk of a frame: its units, which joined are the payload, and the room that the writer was lent for it.
+pub record Image : Type 0 where
+  pub units : List (List ℕ)
+  pub room : List ℕ
+
+-- the units of these chunks, chunk by chunk
+abbrev pub chunkUnits : List Image → List (List (List ℕ))
+chunkUnits [] = []
+chunkUnits (i ∷ is) = i .units ∷ chunkUnits is
+
+-- The calls that wrote a frame and the health chunk after it: the first has the camera, those after it are continuations.
+abbrev pub frameCalls : ℕ → List Image → WriterCall → List WriterCall
+frameCalls cam [] health = health ∷ []
+frameCalls cam (i ∷ is) health = record { kind = 0; camera = cam; payload = joined (i .units); room = i .room } ∷ frameCalls 0 is health
+
+-- A frame of a camera, and after it a health chunk whose first packet observes the camera. Its units hold the data `ds`: as they were
+-- written, or as they arrived, for a chunk whose units were hit has the words that the writer would have left for the units as they are then.
+pub record WrittenFrame (cam : ℕ) (images : List Image) (health : WriterCall) (ds : List (List ℕ)) : Type 0 where
+  pub ofCamera : 1 ≤ cam
+  pub units : unitRows (chunkUnits images) ≡ true
+  pub full : fullButLast (chunkUnits images) ≡ true
+  pub closing : health .kind ≡ 1
+  pub observed : observes (health .payload) cam ≡ true
+  pub accepted : Accepted (frameCalls cam images health)
+  pub hold : Hold (allUnits (chunkUnits images)) ds
+
+-- the words of a recording: what these calls left, after the chunks `before` and with the chunks `after` after it
+abbrev pub recordingOf : ℕ → ℕ → List Laid → List Image → WriterCall → List Laid → List ℕ
+recordingOf sync cam before images health after = words sync before ++ (recorded sync (frameCalls cam images health) ++ words sync after)
+
+-- ---- what comes back
 
 -- The frame of n chunks at the place p comes back: it is complete, and its data, in a room that has as many words at the least, are `ds` joined.
 pub record ComesBack (sync cam p n : ℕ) (ws : List ℕ) (ds : List (List ℕ)) : Type 0 where
@@ -71,12 +87,12 @@ pub record ComesBack (sync cam p n : ℕ) (ws : List ℕ) (ds : List (List ℕ))
 -- Every such frame comes back, in every recording of whole chunks that is not too long.
 abbrev pub FramesComeBack : Type 0
 FramesComeBack =
-    (sync cam : ℕ) (before : List Laid) (uss : List (List (List ℕ))) (health : List ℕ) (after : List Laid) (ds : List (List ℕ))
-    → Written cam uss health ds → wholeRow before ≡ true → wholeRow after ≡ true
-    → length (recordingOf sync cam before uss health after) ≤ recordingLimit
-    → ComesBack sync cam (offset sync before) (length uss) (recordingOf sync cam before uss health after) ds
+    (sync cam : ℕ) (before : List Laid) (images : List Image) (health : WriterCall) (after : List Laid) (ds : List (List ℕ))
+    → WrittenFrame cam images health ds → wholeRow before ≡ true → wholeRow after ≡ true
+    → length (recordingOf sync cam before images health after) ≤ recordingLimit
+    → ComesBack sync cam (offset sync before) (length images) (recordingOf sync cam before images health after) ds
 
 -- The observation packet of a camera closes its frame: as the packet writer left it, with any time and words that it accepts, and whatever packets come after.
 abbrev pub ObservationCloses : Type 0
-ObservationCloses = (cam time : ℕ) (ws room packets : List ℕ) → Accepted (3 + cam) ws room
-    → observes (writtenPacket (3 + cam) time ws room ++ packets) cam ≡ true
+ObservationCloses = (cam time : ℕ) (ws room packets : List ℕ) → packet.Accepted (3 + cam) ws room
+    → observes (packet.written (3 + cam) time ws room ++ packets) cam ≡ true

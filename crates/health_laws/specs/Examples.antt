@@ -8,7 +8,7 @@ use lib.ListN.{replicate}
 use Rattle.base.specs.Refusal.{answer, settled}
 use Rattle.base_room.specs.Room.{put}
 use Rattle.chunk.specs.Header.{legalSize}
-use Rattle.chunk_laws.specs.Written.{Call, reply}
+use Rattle.chunk_laws.specs.Written.{WriterCall, reply}
 use Rattle.crc.specs.Crc.{crcBit, crcStep}
 use Rattle.health.specs.Writing.{writtenCrc, packetFrom, writeRoom}
 use Rattle.health_observation.specs.declared.Mode.{Mode}
@@ -68,7 +68,7 @@ accepted = refl
 abbrev pub packet : Packet
 packet = record { type = 4; time = 0x1A2B; words = observationWords observed; room = replicate 32 0; accepted = accepted }
 
-abbrev pub call : Call
+abbrev pub call : WriterCall
 call = record { kind = 1; camera = 0; payload = packets (packet ∷ []); room = replicate 34 0 }
 
 pub chunkAccepted : reply call .refusal ≡ 0

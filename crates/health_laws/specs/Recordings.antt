@@ -6,7 +6,7 @@ use mathlib.Core.List.{List, [], _∷_, _++_}
 use lib.ListN.{length}
 use lib.Dec.{eqb}
 use Rattle.chunk.specs.Header.{headerWidth}
-use Rattle.chunk_laws.specs.Written.{Call, reply, recorded}
+use Rattle.chunk_laws.specs.Written.{WriterCall, reply, recorded}
 use Rattle.health_last.specs.Packets.{foundAt, nowhere}
 use Rattle.health_last.specs.Last.{inScience, inHealth}
 use Rattle.health_laws.specs.Written.{Accepted, written}
@@ -44,14 +44,14 @@ NoneInHealth = (t : ℕ) (ps : List Packet) → noneOf t ps ≡ true → inHealt
 
 -- A chunk that its writer accepted, and the packets that it carries: none in an image chunk; in a health chunk they are the payload.
 pub record Carrier : Type 0 where
-  pub call : Call
+  pub call : WriterCall
   pub accepted : reply call .refusal ≡ 0
   pub carried : List Packet
   pub image : call .kind ≡ 0 → carried ≡ []
   pub health : call .kind ≡ 1 → call .payload ≡ packets carried
 
 -- the calls that wrote a row of chunks
-abbrev pub calls : List Carrier → List Call
+abbrev pub calls : List Carrier → List WriterCall
 calls [] = []
 calls (c ∷ cs) = c .call ∷ calls cs
 
