@@ -15,7 +15,7 @@ use Rattle.chunk.specs.declared.Entry.{Entry}
 use Rattle.chunk.specs.Header.{size, span, legal, headed, ends, confirmed}
 use Rattle.chunk.specs.Reading.{entry, listed, skippedFrom, skipped, leftAt, listedAt}
 use Rattle.chunk.proofs.Steps.{listed-on, skipped-on, left-split, listed-at-yes}
-use Rattle.chunk_laws.specs.Stretch.{Laid, words, offset, entries, whole, wholeRow}
+use Rattle.chunk_laws.specs.Stretch.{Laid, words, offset, whole, wholeRow}
 use Rattle.chunk_laws.proofs.Tests.{and-both, or-right}
 use Rattle.chunk_laws.proofs.ByPlace.{list-step, skip-step, left-step, left-end}
 
@@ -73,6 +73,11 @@ within-row : (sync : ℕ) (c : Laid) (cs : List Laid) → whole c ≡ true → s
 within-row sync c cs k = omega (arith, length-append (c .payload) (words sync cs), whole-length c k)
 
 -- ---- the row is listed whole
+
+-- every chunk of a row as it is listed, the first at the position `at`
+abbrev pub entries : ℕ → List Laid → List Entry
+entries at [] = []
+entries at (c ∷ cs) = entry at (c .header) ∷ entries (at + span (c .header)) cs
 
 pub lists-row : (sync at : ℕ) (cs : List Laid) → wholeRow cs ≡ true → listed sync at 0 (words sync cs) ≡ entries at cs
 unfolding listed

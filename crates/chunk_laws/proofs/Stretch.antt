@@ -14,10 +14,20 @@ use lib.Dec.{eqb}
 use borrow.Author.Tests.{eqb-true, not-true}
 use Rattle.base.proofs.Booleans.{and-left, and-right, or-cases}
 use Rattle.chunk.specs.Header.{size, span, legal, headed, ends}
-use Rattle.chunk.specs.Reading.{reading, leftAt}
-use Rattle.chunk_laws.specs.Stretch.{Laid, words, offset, entries, whole, wholeRow, lacks, clean, headless, unbroken}
+use Rattle.chunk.specs.Reading.{leftAt}
+use Rattle.chunk_laws.specs.Stretch.{Laid, words, offset, whole, wholeRow, lacks, clean}
 use Rattle.chunk_laws.proofs.Tests.{and-both}
-use Rattle.chunk_laws.proofs.Rows.{whole-length, ends-past, lists-row, left-rest}
+use Rattle.chunk_laws.proofs.Rows.{whole-length, ends-past, left-rest}
+
+-- no legal header begins at one of the first n of these words
+unfoldable pub headless : ℕ → ℕ → List ℕ → Bool
+headless sync zero ws = true
+headless sync (suc n) ws = not (headed sync ws) && headless sync n (drop 1 ws)
+
+-- Less than a clean stretch is enough: whole chunks, inside none of which a legal header begins, though the sync word may stand there.
+unfoldable pub unbroken : ℕ → List Laid → Bool
+unbroken sync [] = true
+unbroken sync (c ∷ cs) = whole c && headless sync (suc (length (c .payload))) (c .header ∷ (c .payload ++ words sync cs)) && unbroken sync cs
 
 -- ---- legal headers
 
@@ -66,10 +76,6 @@ pub unbroken-row : (sync : ℕ) (cs : List Laid) → unbroken sync cs ≡ true �
 unfolding wholeRow
 unbroken-row sync [] k = refl
 unbroken-row sync (c ∷ cs) k = and-both (whole c) _ (first-whole sync c cs k) (unbroken-row sync cs (rest-unbroken sync c cs k))
-
--- alone, such a stretch is listed whole
-pub stretch-alone : (sync : ℕ) (cs : List Laid) → unbroken sync cs ≡ true → reading sync (words sync cs) ≡ entries 0 cs
-stretch-alone sync cs k = lists-row sync 0 cs (unbroken-row sync cs k)
 
 pub unbroken-after : (sync : ℕ) (before after : List Laid) → unbroken sync (before ++ after) ≡ true → unbroken sync after ≡ true
 unbroken-after sync [] after k = k

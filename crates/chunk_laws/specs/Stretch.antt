@@ -1,12 +1,10 @@
--- Rows of chunks: their words, how they are listed, and what makes a row a clean stretch.
-use Prim.Native.Nat.{ℕ, zero, suc, _+_}
+-- Rows of chunks: their words, and what makes a row a clean stretch.
+use Prim.Native.Nat.{ℕ}
 use mathlib.Core.Bool.{Bool, true, not, _&&_}
 use mathlib.Core.List.{List, [], _∷_, _++_}
-use lib.ListN.{length, drop}
+use lib.ListN.{length}
 use lib.Dec.{eqb}
-use Rattle.chunk.specs.declared.Entry.{Entry}
-use Rattle.chunk.specs.Header.{size, span, legal, headed}
-use Rattle.chunk.specs.Reading.{entry}
+use Rattle.chunk.specs.Header.{size, legal}
 
 -- A chunk: its header word, and the words after it.
 pub record Laid : Type 0 where
@@ -21,11 +19,6 @@ words sync (c ∷ cs) = sync ∷ c .header ∷ (c .payload ++ words sync cs)
 -- how many words after the row's start the chunk begins that comes after the chunks `before`
 abbrev pub offset : ℕ → List Laid → ℕ
 offset sync before = length (words sync before)
-
--- every chunk of a row as it is listed, the first at the position `at`
-abbrev pub entries : ℕ → List Laid → List Entry
-entries at [] = []
-entries at (c ∷ cs) = entry at (c .header) ∷ entries (at + span (c .header)) cs
 
 -- a legal header word, and as many words after it as it says
 abbrev pub whole : Laid → Bool
@@ -45,13 +38,3 @@ lacks w (x ∷ xs) = not (eqb x w) && lacks w xs
 unfoldable pub clean : ℕ → List Laid → Bool
 clean sync [] = true
 clean sync (c ∷ cs) = whole c && lacks sync (c .header ∷ c .payload) && clean sync cs
-
--- no legal header begins at one of the first n of these words
-unfoldable pub headless : ℕ → ℕ → List ℕ → Bool
-headless sync zero ws = true
-headless sync (suc n) ws = not (headed sync ws) && headless sync n (drop 1 ws)
-
--- Less is enough: whole chunks, inside none of which a legal header begins, though the sync word may stand there.
-unfoldable pub unbroken : ℕ → List Laid → Bool
-unbroken sync [] = true
-unbroken sync (c ∷ cs) = whole c && headless sync (suc (length (c .payload))) (c .header ∷ (c .payload ++ words sync cs)) && unbroken sync cs

@@ -20,10 +20,10 @@ use Rattle.chunk.specs.Header.{size, kind, span, legalSize, confirmed}
 use Rattle.chunk.specs.Reading.{entry, listedWords, listedAt}
 use Rattle.chunk_writing.specs.Writing as writes
 use Rattle.chunk_writing.specs.Writing.{headerWord}
-use Rattle.chunk_laws.specs.Stretch.{Laid, words, offset, entries, whole as wholeChunk, wholeRow}
+use Rattle.chunk_laws.specs.Stretch.{Laid, words, offset, whole as wholeChunk, wholeRow}
 use Rattle.chunk_laws.specs.Written.{WriterCall, reply, Accepted, recorded}
 use Rattle.chunk_laws.proofs.Tests.{and-both}
-use Rattle.chunk_laws.proofs.Rows.{whole-length, row-first, row-rest, row-confirmed, row-drop, lists-row, words-parts, row-at, row-listed, payload-there}
+use Rattle.chunk_laws.proofs.Rows.{entries, whole-length, row-first, row-rest, row-confirmed, row-drop, lists-row, words-parts, row-at, row-listed, payload-there}
 use Rattle.chunk_laws.proofs.Written.{accepted, laidOut, kind-written, camera-written, size-written, written-whole, laid, accepted-taken, recorded-words}
 use Rattle.parity_laws.specs.Units.{Hold}
 use Rattle.health.specs.Writing.{packetFrom}
@@ -38,7 +38,7 @@ use Rattle.frame.specs.Walk.{startsFrame, closesFrame}
 use Rattle.frame_reading.specs.Replies.{refused, noFrame, atCauses, judgeCauses, readCauses, atReply, judgeReply, readReply, readRoom}
 use Rattle.frame.proofs.Joining.{joining-one}
 use Rattle.frame.proofs.Walking.{complete-at-end}
-use Rattle.frame_laws.specs.Written.{joined, unitRow, unitRows, fullButLast, allUnits, Image, chunkUnits, frameCalls, WrittenFrame, recordingOf, ComesBack, FramesComeBack, ObservationCloses}
+use Rattle.frame_laws.specs.Written.{joined, unitRow, unitRows, fullButLast, allUnits, Image, imageUnits, frameCalls, WrittenFrame, recordingOf, ComesBack, FramesComeBack, ObservationCloses}
 
 -- ---- a payload splits into its units
 
@@ -120,7 +120,7 @@ unfoldable writable : ℕ → List (List (List ℕ)) → Bool
 writable cam [] = true
 writable cam (us ∷ uss) = unitRow us && accepted 0 cam (joined us) && writable 0 uss
 
-chunk-count : (cam : ℕ) (is : List Image) → length (frameRow cam (chunkUnits is)) ≡ length is
+chunk-count : (cam : ℕ) (is : List Image) → length (frameRow cam (imageUnits is)) ≡ length is
 chunk-count cam [] = refl
 chunk-count cam (i ∷ is) = ap suc (chunk-count 0 is)
 
@@ -183,8 +183,8 @@ joins-own health after k cam us (vs ∷ uss) w f end =
 
 -- ---- they are what accepted calls of the chunk writer left
 
-rows-taken : (cam : ℕ) (is : List Image) (health : WriterCall) → unitRows (chunkUnits is) ≡ true → Accepted (frameCalls cam is health)
-    → (writable cam (chunkUnits is) ≡ true) × (reply health .refusal ≡ 0)
+rows-taken : (cam : ℕ) (is : List Image) (health : WriterCall) → unitRows (imageUnits is) ≡ true → Accepted (frameCalls cam is health)
+    → (writable cam (imageUnits is) ≡ true) × (reply health .refusal ≡ 0)
 unfolding writable unitRows
 rows-taken cam [] health u a = (refl, a .0)
 rows-taken cam (i ∷ is) health u a =
@@ -196,14 +196,14 @@ rows-taken cam (i ∷ is) health u a =
       more .1,
     )
 
-calls-laid : (cam : ℕ) (is : List Image) (health : WriterCall) → map laid (frameCalls cam is health) ≡ frameRow cam (chunkUnits is) ++ laid health ∷ []
+calls-laid : (cam : ℕ) (is : List Image) (health : WriterCall) → map laid (frameCalls cam is health) ≡ frameRow cam (imageUnits is) ++ laid health ∷ []
 calls-laid cam [] health = refl
 calls-laid cam (i ∷ is) health = ap (λ (cs : List Laid). laidOut 0 cam (joined (i .units)) ∷ cs) (calls-laid 0 is health)
 
 recording-words : (sync cam : ℕ) (before : List Laid) (is : List Image) (health : WriterCall) (after : List Laid) → Accepted (frameCalls cam is health)
-    → recordingOf sync cam before is health after ≡ words sync (before ++ (frameRow cam (chunkUnits is) ++ laid health ∷ after))
+    → recordingOf sync cam before is health after ≡ words sync (before ++ (frameRow cam (imageUnits is) ++ laid health ∷ after))
 recording-words sync cam before is health after a =
-    let row : List Laid = frameRow cam (chunkUnits is) in
+    let row : List Laid = frameRow cam (imageUnits is) in
     ap (λ (l : List ℕ). words sync before ++ l)
     (ap (λ (l : List ℕ). l ++ words sync after) (recorded-words sync (frameCalls cam is health) a ∙ ap (words sync) (calls-laid cam is health))
     ∙ sym (words-parts sync (row ++ laid health ∷ []) after)
@@ -231,7 +231,7 @@ module _ (sync cam : ℕ) (i : Image) (is : List Image) (health : WriterCall) (a
   us = i .units
 
   abbrev uss : List (List (List ℕ))
-  uss = chunkUnits is
+  uss = imageUnits is
 
   abbrev closing : Laid
   closing = laid health

@@ -51,9 +51,9 @@ pub record Image : Type 0 where
   pub room : List ℕ
 
 -- the units of these chunks, chunk by chunk
-abbrev pub chunkUnits : List Image → List (List (List ℕ))
-chunkUnits [] = []
-chunkUnits (i ∷ is) = i .units ∷ chunkUnits is
+abbrev pub imageUnits : List Image → List (List (List ℕ))
+imageUnits [] = []
+imageUnits (i ∷ is) = i .units ∷ imageUnits is
 
 -- The calls that wrote a frame and the health chunk after it: the first has the camera, those after it are continuations.
 abbrev pub frameCalls : ℕ → List Image → WriterCall → List WriterCall
@@ -64,12 +64,12 @@ frameCalls cam (i ∷ is) health = record { kind = 0; camera = cam; payload = jo
 -- written, or as they arrived, for a chunk whose units were hit has the words that the writer would have left for the units as they are then.
 pub record WrittenFrame (cam : ℕ) (images : List Image) (health : WriterCall) (ds : List (List ℕ)) : Type 0 where
   pub ofCamera : 1 ≤ cam
-  pub units : unitRows (chunkUnits images) ≡ true
-  pub full : fullButLast (chunkUnits images) ≡ true
+  pub units : unitRows (imageUnits images) ≡ true
+  pub full : fullButLast (imageUnits images) ≡ true
   pub closing : health .kind ≡ 1
   pub observed : observes (health .payload) cam ≡ true
   pub accepted : Accepted (frameCalls cam images health)
-  pub hold : Hold (allUnits (chunkUnits images)) ds
+  pub hold : Hold (allUnits (imageUnits images)) ds
 
 -- the words of a recording: what these calls left, after the chunks `before` and with the chunks `after` after it
 abbrev pub recordingOf : ℕ → ℕ → List Laid → List Image → WriterCall → List Laid → List ℕ

@@ -13,10 +13,10 @@ use Rattle.base.proofs.Booleans.{and-left, and-right}
 use Rattle.chunk.specs.declared.Entry.{Entry}
 use Rattle.chunk.specs.Header.{kind, size, span}
 use Rattle.chunk.specs.Reading.{entry}
-use Rattle.chunk_laws.specs.Stretch.{Laid, words, offset, entries, whole, wholeRow}
+use Rattle.chunk_laws.specs.Stretch.{Laid, words, offset, whole, wholeRow}
 use Rattle.chunk_laws.specs.Written.{Accepted, recorded}
 use Rattle.chunk_laws.proofs.Tests.{and-both, by-test}
-use Rattle.chunk_laws.proofs.Rows.{whole-length, row-first, row-rest, row-drop, lists-row}
+use Rattle.chunk_laws.proofs.Rows.{entries, whole-length, row-first, row-rest, row-drop, lists-row}
 use Rattle.chunk_laws.proofs.Written.{laid, kind-written, accepted-taken, row-whole, recorded-words}
 use Rattle.health.specs.Packet.{packetType}
 use Rattle.health_last.specs.Packets.{foundAt, nowhere, packetPlaces, chunkPlaces, placesOf, soundOf, later, lastWhere}

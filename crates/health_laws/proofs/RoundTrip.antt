@@ -18,10 +18,10 @@ use Rattle.health.proofs.Sound.{sound-verdict}
 use Rattle.health_laws.specs.Written.{Accepted, written, WrittenIsRead, SoundIsWritten}
 
 module _ (t s : ℕ) (ws : List ℕ) (takes : writableType t ≡ true) (long : length ws ≡ 29) where
-  pub written-length : length (packetFrom t s ws) ≡ 32
+  written-length : length (packetFrom t s ws) ≡ 32
   written-length = omega arith
 
-  pub written-is-sound : soundPacket (packetFrom t s ws) ≡ true
+  written-is-sound : soundPacket (packetFrom t s ws) ≡ true
   unfolding soundPacket packetCrc writtenCrc
   written-is-sound = simp (eq-eqb (length (packetFrom t s ws)) 32 written-length, eq-eqb (writtenCrc t s ws) (writtenCrc t s ws) refl, takes)
 

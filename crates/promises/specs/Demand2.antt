@@ -42,7 +42,7 @@ pub record Demand2 : Type 0 where
   pub flip : units.OneFlipIsRepaired
   -- ---- health packets
 
-  -- a written packet is read with its type, time and words; a sound packet is what the writer makes of its parts
+  -- a written packet is read with its type, time and words; a packet that is accepted is the very one that is written for them
   pub packet : WrittenIsRead
   pub packets : SoundIsWritten
   -- and its field reader gives back the fields that its words say
