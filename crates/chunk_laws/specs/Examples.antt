@@ -6,9 +6,10 @@ use mathlib.Core.List.{List, [], _∷_}
 use lib.ListN.{replicate}
 use Rattle.base.specs.Refusal.{answer, settled}
 use Rattle.base_room.specs.Room.{put}
-use Rattle.chunk.specs.Header.{legalSize}
+use Rattle.chunk.specs.Header.{legalSize, legal, headed, ends, confirmed}
 use Rattle.chunk.specs.Examples.{listing}
 use Rattle.chunk_writing.specs.Writing.{writeRoom}
+use Rattle.chunk_laws.specs.Answers.{checked}
 use Rattle.chunk_laws.specs.Written.{WriterCall, Accepted, recorded}
 
 -- nine words 0 of camera 1, with more room than is needed, and a health chunk of 32 words 0, with just enough
@@ -24,3 +25,8 @@ callsAccepted = (refl, (refl, tt))
 pub callsRecorded : 0x0007 ∷ recorded 0x5AF3 calls ≡ listing
 unfolding settled answer legalSize writeRoom put
 callsRecorded = refl
+
+-- the header check tells the places of its chunks from the others
+pub callsChecked : (checked 0x5AF3 listing 0 ≡ 0) × (checked 0x5AF3 listing 1 ≡ 1) × (checked 0x5AF3 listing 2 ≡ 0) × (checked 0x5AF3 listing 12 ≡ 1)
+unfolding confirmed headed ends legal legalSize
+callsChecked = (refl, refl, refl, refl)

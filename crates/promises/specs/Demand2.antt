@@ -26,7 +26,7 @@ pub record Demand2 : Type 0 where
   pub skipped : SkippedByPlace
   -- a chunk is listed exactly where the list has an entry, and the calls for a place answer what the entry says
   pub places : PlacesAreTheList
-  -- the header check and the search, by the number and the values of their answers
+  -- the header check answers by the words at the place and at the chunk's end; the search finds the first chunk that is listed from the place on
   pub check : CheckTells
   pub search : SearchTells
   -- what the writer left is given back by the survey, the calls for a place and the register: a chunk alone, and rows of any length
@@ -67,7 +67,7 @@ pub record Demand2 : Type 0 where
   pub rewritten : WrittenAlike
   -- ---- frames
 
-  -- a written frame comes back, also with one bit flipped in each of its units
+  -- a frame that accepted calls wrote comes back, also with one bit flipped in each of its units
   pub frame : FramesComeBack
   pub arrived : units.ArrivedHold
   -- and a written observation packet is what closes it
