@@ -21,7 +21,7 @@ use Rattle.frame.specs.Described.{frame, described}
 use Rattle.frame.specs.Pieces.{framesAndStrays, firstPiece, nextPiece}
 use Rattle.frame_reading.specs.Replies.{refused, atReply, judgeReply, readReply, readRoom}
 use Rattle.frame_laws.specs.Written.{joined, unitRow, unitRows, fullButLast, WrittenFrame, recordingOf}
-use Rattle.frame_laws.specs.Examples.{sync, unit, packet, image, continuation, health, imageOf, healthCall, Examples}
+use Rattle.frame_laws.specs.Examples.{sync, image, continuation, health, imageOf, healthCall, Examples}
 
 completes : (atReply sync (image 0x8000 ++ health 4) 0 ≡ frame 0 1 1 true 1)
     × (readReply sync (image 0x8000 ++ health 4) 0 2 ≡ frame 0 1 1 true 1)

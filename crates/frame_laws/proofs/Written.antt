@@ -21,7 +21,7 @@ use Rattle.chunk.specs.Reading.{entry, listedWords, listedAt}
 use Rattle.chunk_writing.specs.Writing as writes
 use Rattle.chunk_writing.specs.Writing.{headerWord}
 use Rattle.chunk_laws.specs.Stretch.{Laid, words, offset, whole as wholeChunk, wholeRow}
-use Rattle.chunk_laws.specs.Written.{WriterCall, reply, Accepted, recorded}
+use Rattle.chunk_laws.specs.Written.{WriterCall, reply, Accepted}
 use Rattle.chunk_laws.proofs.Tests.{and-both}
 use Rattle.chunk_laws.proofs.Rows.{entries, whole-length, row-first, row-rest, row-confirmed, row-drop, lists-row, words-parts, row-at, row-listed, payload-there}
 use Rattle.chunk_laws.proofs.Written.{accepted, laidOut, kind-written, camera-written, size-written, written-whole, laid, accepted-taken, recorded-words}
