@@ -14,7 +14,7 @@ use Rattle.promises.specs.calls.Reel as reel
 use Rattle.promises.specs.calls.Program as program
 
 -- The calls. Each accepts every input, and refuses what the rules refuse, with the first cause that applies in the order of FORMAT, "Refusal numbers"; beside
--- the number stand zeros, and lent room is as it was. Else its answer is its definition's, and there is no other.
+-- the number stand zeros, and lent room is as it was. Else the number is 0, the answer is the definition's, and there is no other.
 pub record Calls : Type 0 where
   pub survey : Answers chunk.survey
   pub chunkAt : Answers chunk.at
