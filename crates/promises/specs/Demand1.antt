@@ -38,7 +38,7 @@ pub record Calls : Type 0 where
   pub judgeFrame : Answers frame.judge
   pub readFrame : Answers frame.read
   pub judgeCommand : Answers command.judge
-  pub firstOfCommand : Answers command.first
+  pub commandFirst : Answers command.first
   pub readCommand : Answers command.read
   pub further : Answers command.further
   pub writeCommand : Answers command.write
@@ -86,10 +86,10 @@ pub record Total : Type 0 where
   pub soundAt : Determined health.soundAt
   pub starts : Determined frame.starts
   pub nextPiece : Determined frame.next
-  pub numberAt : Determined command.wordAt
+  pub commandWordAt : Determined command.wordAt
   pub fieldsIn : Determined command.fieldsIn
   pub askedWrong : Determined command.askedWrong
-  pub emptyPage : Determined program.to
+  pub outTo : Determined program.to
   pub append : Determined program.append
   pub appendNumber : Determined program.appendNumber
 
