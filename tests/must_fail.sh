@@ -40,8 +40,8 @@ wrong = []
 edits = sorted(pathlib.Path('crates').glob('*/must-fail/*.edit'))
 for edit in edits:
     name = f'{edit.parts[-3]}/{edit.stem}'
-    old, new = (re.search(rf'^{key}: (.*)', edit.read_text(), re.M).group(1) for key in ('old', 'new'))
-    if connectives(old) != connectives(new):
+    old, new = ([connectives(line) for line in re.findall(rf'^{key}: (.*)', edit.read_text(), re.M)] for key in ('old', 'new'))
+    if old != new:
         wrong.append(f'{name}: other connectives')
     log = pathlib.Path('target/must-fail', name, '.log')
     if not log.exists():

@@ -1,7 +1,7 @@
 #!/usr/bin/env bash
-# docs/PROMISES.md is held to the repository: it names every public function and no other, as a call or as a building block, and so do the ties of the
-# crate `promises`; it names every must-fail edit under a function of the edit's crate and no other, and in its map every file is there and has the names
-# that the map gives beside it.
+# docs/PROMISES.md is held to the repository: it names every public function and no other, as a call or as a building block; it names every must-fail edit
+# under a function of the edit's crate and no other, and in its map every file is there and has the names that the map gives beside it. The crate `promises`
+# ties the same functions, each to its own contract, and promises each tie once, under the function's name.
 set -u
 cd "$(dirname "${BASH_SOURCE[0]}")/.." || exit 1
 python3 - <<'PYTHON'
@@ -41,13 +41,34 @@ descriptors = {f for f in functions if f.split('::')[-1] in ('take', 'flush', 't
 kinds = {name: kind for name, kind in re.findall(r'^\*\*`([\w:]+)`\*\*, (call|block):', promised, re.M)}
 compare('function', functions - descriptors, set(kinds))
 
-ties = {
-    name: 'call' if kind == 'Call' else 'block'
-    for path in pathlib.Path('crates/promises/specs/calls').glob('*.antt')
-    for name, kind in re.findall(r'^-- `([\w:]+)`.*\n(?:--.*\n)*abbrev pub \w+ : (Call|Function)$', path.read_text(), re.M)
-}
+# a tie: the function, its name in the family, its kind, and the description, which must cite the function's own signature and claims
+TIE = r'^-- `([\w:]+)`.*\n(?:--.*\n)*abbrev pub (\w+) : (Call|Function)\n((?:.+\n)+)'
+demand = pathlib.Path('crates/promises/specs/Demand1.antt').read_text()
+families = dict(re.findall(r'^use .*\.calls\.(\w+) as (\w+)$', demand, re.M))
+ties, described = {}, {}
+for path in sorted(pathlib.Path('crates/promises/specs/calls').glob('*.antt')):
+    contracts = dict(re.findall(r'^use Rattle·(\w+)\.proofs as (\w+)$', path.read_text(), re.M))
+    for function, name, kind, description in re.findall(TIE, path.read_text(), re.M):
+        ties[function] = 'call' if kind == 'Call' else 'block'
+        described[f'{families.get(path.stem)}.{name}'] = function
+        crate, *rest = function.split('::')
+        own = '.'.join([contracts.get(crate, '?'), *rest])
+        # the register's claims are read in its family's own file
+        claims = ['ended'] if function == 'chunk_register::list' else ['ended', 'Reads.Asked', 'Reads.Post']
+        cited = re.findall(r'[\w.]+\.(?:ended|Reads\.\w+)', description)
+        if cited != [f'{own}.{claim}' for claim in claims]:
+            wrong.append(f'{function} is tied to {", ".join(cited)}')
 compare('tie of', functions - descriptors, set(ties))
 wrong.extend(f'{name} is tied as a {ties[name]} and named as a {kinds[name]}' for name in sorted(set(ties) & set(kinds)) if ties[name] != kinds[name])
+
+fields = re.findall(r'^  pub (\w+) : (?:Answers|Determined) (\S+)$', demand, re.M)
+promises = [tie for _, tie in fields]
+compare('promise of', set(described), set(promises))
+wrong.extend(f'{tie} is promised more than once' for tie in sorted(set(promises)) if promises.count(tie) > 1)
+for field, tie in fields:
+    name = described.get(tie, '').split('::')[-1]
+    if name.replace('_', '') not in field.lower():
+        wrong.append(f'{described[tie]} is promised as {field}')
 
 edits = {(path.parts[-3], path.stem) for path in pathlib.Path('crates').glob('*/must-fail/*.edit')}
 named, crate = set(), ''

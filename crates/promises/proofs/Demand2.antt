@@ -1,4 +1,5 @@
 -- Demand 2 is the crates' own laws.
+use Rattle.crc.proofs.Laws.{words-bytes}
 use Rattle.chunk_laws.proofs.Skipped.{skipped-by-place}
 use Rattle.chunk_laws.proofs.Listed.{places-are-the-list}
 use Rattle.chunk_laws.proofs.Answers.{check-tells, search-tells}
@@ -22,6 +23,7 @@ use Rattle.promises.specs.Demand2.{Demand2}
 pub demand-2 : Demand2
 demand-2 =
     record {
+      crc = words-bytes;
       skipped = skipped-by-place;
       places = places-are-the-list;
       check = check-tells;

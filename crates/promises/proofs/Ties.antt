@@ -1,8 +1,27 @@
 -- Two answers that are the definition's are one another's: this one law gives `Agree` of every function. And where the definition gives the refusal, so does
--- whatever is tied to it.
-use mathlib.Core.Path.{_≡_, sym, _∙_}
-use Rattle.base.specs.Refusal.{verdict}
-use Rattle.promises.specs.Ties.{Lifetimes, Arguments, Function, Accepting, Tied, Agree, Determined, Call, Ordered, Refusing, Answers}
+-- whatever is tied to it; and the same of the number.
+use Prim.Native.Nat.{ℕ}
+use mathlib.Core.Path.{_≡_, refl, sym, ap, _∙_}
+use mathlib.Core.Bool.{Bool, true, false, cond}
+use mathlib.Core.Option.{Option, none, some}
+use lib.Dec.{eqb}
+use borrow.Author.Tests.{eqb-true}
+use Rattle.base.specs.Refusal.{verdict, answer}
+use Rattle.promises.specs.Ties.{
+  Lifetimes,
+  Arguments,
+  Function,
+  Accepting,
+  Tied,
+  Agree,
+  Determined,
+  Call,
+  Ordered,
+  Refusing,
+  HasNumber,
+  Numbered,
+  Answers,
+}
 
 agrees : (f : Function) → Tied f → Agree f
 agrees f t κs a x y e d p q = t κs a x e p ∙ sym (t κs a y d q)
@@ -18,8 +37,32 @@ DefinedSo c = (κs : Lifetimes (c .function .type)) (a : Arguments (c .function 
 refuses : (c : Call) → Tied (c .function) → DefinedSo c → Refusing c
 refuses c t r κs a x e p h = t κs a x e p ∙ r κs a h
 
-pub answers : (c : Call) → Accepting (c .function) → Tied (c .function) → Ordered c → DefinedSo c → Answers c
-answers c all t o r = record { determined = determined (c .function) all t; ordered = o; refusing = refuses c t r }
+-- the definition has the number
+abbrev pub NumberedSo : Call → Type 0
+NumberedSo c = (κs : Lifetimes (c .function .type)) (a : Arguments (c .function .type) κs)
+    → HasNumber (c .number κs a) (c .function .defined κs a) (verdict (c .causes κs a))
+
+-- equal answers have one number
+alike : {A : Type 0} (number : Option (A → ℕ)) {x y : A} (v : ℕ) → x ≡ y → HasNumber number y v → HasNumber number x v
+alike none v p h = tt
+alike (some number) v p h = ap number p ∙ h
+
+numbers : (c : Call) → Tied (c .function) → NumberedSo c → Numbered c
+numbers c t n κs a x e p = alike (c .number κs a) (verdict (c .causes κs a)) (t κs a x e p) (n κs a)
+
+pub answers : (c : Call) → Accepting (c .function) → Tied (c .function) → Ordered c → DefinedSo c → NumberedSo c → Answers c
+answers c all t o r n =
+    record { determined = determined (c .function) all t; ordered = o; refusing = refuses c t r; numbered = numbers c t n }
+
+-- an answer has the number v, if the refusal by v has it and what is given has 0
+pub answer-number : {A : Type 0} (number : A → ℕ) (v : ℕ) (refused : ℕ → A) (given : A) → number (refused v) ≡ v → number given ≡ 0
+    → number (answer v refused given) ≡ v
+unfolding answer
+answer-number number v refused given r g = by-cases (eqb v 0) refl
+  where
+    by-cases : (b : Bool) → eqb v 0 ≡ b → number (cond b given (refused v)) ≡ v
+    by-cases true e = g ∙ sym (eqb-true v 0 e)
+    by-cases false e = r
 
 -- an equation for the reply and one for the room are one for the two together
 pub both : {A B : Type 0} {a b : A} {x y : B} → (a ≡ b) × (x ≡ y) → _≡_ {A = A × B} (a, x) (b, y)

@@ -14,7 +14,7 @@ use Rattle.promises.specs.calls.Reel as reel
 use Rattle.promises.specs.calls.Program as program
 
 -- The calls. Each accepts every input, and refuses what the rules refuse, with the first cause that applies in the order of FORMAT, "Refusal numbers"; beside
--- the number stand zeros, and lent room is as it was. Else its answer is its definition's, and there is no other.
+-- the number stand zeros, and lent room is as it was. Else the number is 0, the answer is the definition's, and there is no other.
 pub record Calls : Type 0 where
   pub survey : Answers chunk.survey
   pub chunkAt : Answers chunk.at
@@ -38,7 +38,7 @@ pub record Calls : Type 0 where
   pub judgeFrame : Answers frame.judge
   pub readFrame : Answers frame.read
   pub judgeCommand : Answers command.judge
-  pub firstOfCommand : Answers command.first
+  pub commandFirst : Answers command.first
   pub readCommand : Answers command.read
   pub further : Answers command.further
   pub writeCommand : Answers command.write
@@ -86,10 +86,10 @@ pub record Total : Type 0 where
   pub soundAt : Determined health.soundAt
   pub starts : Determined frame.starts
   pub nextPiece : Determined frame.next
-  pub numberAt : Determined command.wordAt
+  pub commandWordAt : Determined command.wordAt
   pub fieldsIn : Determined command.fieldsIn
   pub askedWrong : Determined command.askedWrong
-  pub emptyPage : Determined program.to
+  pub outTo : Determined program.to
   pub append : Determined program.append
   pub appendNumber : Determined program.appendNumber
 

@@ -1,6 +1,10 @@
 -- FORMAT, "The three demands", the second: each call does what the rules say, the readers give back what the writers write, and one flipped bit anywhere
 -- in a written unit is found and put right. That each call does what its definition says is the tie of `Demand1`. Here stands what the definitions amount
 -- to, of what the calls reply and leave in the room.
+use Prim.Native.Nat.{ℕ}
+use mathlib.Core.Path.{_≡_}
+use mathlib.Core.List.{List}
+use Rattle.crc.specs.Crc.{crcWords, crcBytes, bytesOf}
 use Rattle.chunk_laws.specs.Outside.{SkippedByPlace}
 use Rattle.chunk_laws.specs.Listed.{PlacesAreTheList}
 use Rattle.chunk_laws.specs.Answers.{CheckTells, SearchTells}
@@ -20,6 +24,10 @@ use Rattle.frame_laws.specs.Place.{FramesByPlace}
 use Rattle.reel_laws.specs.Fits.{WrittenIsAccepted, RecordingComesBack, AcceptedIsWritten, OldIndexIsRefused}
 
 pub record Demand2 : Type 0 where
+  -- ---- the CRC
+
+  -- over bytes it is the same rule: words have the CRC of their bytes, the high byte of each first
+  pub crc : (r : ℕ) (m : List ℕ) → crcWords r m ≡ crcBytes r (bytesOf m)
   -- ---- chunks
 
   -- the skipped words are those in no listed chunk, by place, and with the words of the listed chunks they are all

@@ -4,6 +4,7 @@
 use Prim.Native.Nat.{ℕ}
 use mathlib.Core.Path.{_≡_}
 use mathlib.Core.Bool.{true}
+use mathlib.Core.Option.{Option, none, some}
 use contract.Lifetimes.{Lfts}
 use denote.Triple.Entry.{Args, Res}
 use denote.Triple.Clauses.{Ended, AtExit}
@@ -69,21 +70,24 @@ pub record Determined (f : Function) : Type 0 where
 
 -- ---- a call
 
--- What a call tells of its arguments: its answer, the causes for which it refuses them, and its answer where it refuses with the number v.
+-- What a call tells of its arguments: its answer, the causes for which it refuses them, its answer where it refuses with the number v, and where in an
+-- answer the number stands, if it has one. A returned part and a returned array have none: another call gives it.
 pub record Told (A : Type 0) : Type 0 where
   pub defined : A
   pub causes : Causes
   pub refused : ℕ → A
+  pub number : Option (A → ℕ)
 
 -- of a call that answers the number alone
-abbrev pub number : Causes → Told ℕ
-number cs = record { defined = verdict cs; causes = cs; refused = λ v. v }
+abbrev pub numberAlone : Causes → Told ℕ
+numberAlone cs = record { defined = verdict cs; causes = cs; refused = λ v. v; number = some λ x. x }
 
 -- A call: a function that refuses some arguments.
 pub record Call : Type 2 where
   pub function : Function
   pub causes : (κs : Lifetimes (function .type)) → Arguments (function .type) κs → Causes
   pub refused : (κs : Lifetimes (function .type)) → Arguments (function .type) κs → ℕ → function .Seen κs
+  pub number : (κs : Lifetimes (function .type)) → Arguments (function .type) κs → Option (function .Seen κs → ℕ)
 
 -- as for functions: a call of which the caller sees the reply, and one of which the caller sees something else
 abbrev pub repliesOrRefuses : (T : Ended) → Asks T → Ensures T → ((κs : Lifetimes T) → Arguments T κs → Told (Reply T κs)) → Call
@@ -92,6 +96,7 @@ repliesOrRefuses T asks ensures told =
       function = replies T asks ensures λ κs a. told κs a .defined;
       causes = λ κs a. told κs a .causes;
       refused = λ κs a. told κs a .refused;
+      number = λ κs a. told κs a .number;
     }
 
 abbrev pub showsOrRefuses : (T : Ended) → Asks T → Ensures T → (Seen : Type 0) → ((κs : Lifetimes T) → Reply T κs → AtExit T κs → Seen)
@@ -101,6 +106,7 @@ showsOrRefuses T asks ensures Seen seen told =
       function = shows T asks ensures Seen seen λ κs a. told κs a .defined;
       causes = λ κs a. told κs a .causes;
       refused = λ κs a. told κs a .refused;
+      number = λ κs a. told κs a .number;
     }
 
 -- its causes stand in the order of FORMAT, "Refusal numbers"
@@ -113,8 +119,20 @@ Refusing c = (κs : Lifetimes (c .function .type)) (a : Arguments (c .function .
     (e : AtExit (c .function .type) κs) → c .function .ensures κs a x e → (verdict (c .causes κs a) ≡ 0 → ⊥)
     → c .function .seen κs x e ≡ c .refused κs a (verdict (c .causes κs a))
 
+-- the number that stands in an answer, if one does, is v
+abbrev pub HasNumber : {A : Type 0} → Option (A → ℕ) → A → ℕ → Type 0
+HasNumber none x v = Unit {0}
+HasNumber (some number) x v = number x ≡ v
+
+-- the number in whatever meets the contract is that of the first cause that applies, and 0, which is accepted, where none does
+abbrev pub Numbered : Call → Type 0
+Numbered c = (κs : Lifetimes (c .function .type)) (a : Arguments (c .function .type) κs) (x : Reply (c .function .type) κs)
+    (e : AtExit (c .function .type) κs) → c .function .ensures κs a x e
+    → HasNumber (c .number κs a) (c .function .seen κs x e) (verdict (c .causes κs a))
+
 -- what the first demand asks of a call
 pub record Answers (c : Call) : Type 0 where
   pub determined : Determined (c .function)
   pub ordered : Ordered c
   pub refusing : Refusing c
+  pub numbered : Numbered c

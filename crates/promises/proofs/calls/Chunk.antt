@@ -1,12 +1,15 @@
--- Each contract is the tie itself; each refusal is the first arm of `answer`.
+-- Each contract is the tie itself; each refusal is the first arm of `answer`, and the number stands in both arms.
 use mathlib.Core.Path.{refl}
 use Rattle.base.specs.Refusal.{settled}
-use Rattle.base.proofs.Refused.{answer-no}
+use Rattle.base.proofs.Refused.{answer-no, settled-refusal}
+use Rattle.chunk_reading.specs.declared.Survey.{Survey}
+use Rattle.chunk_reading.specs.declared.Heading.{Heading}
 use Rattle.chunk_writing.specs.Writing.{writeRoom}
+use Rattle.chunk_outline.specs.declared.Runs.{Runs}
 use Rattle.chunk_outline.specs.Outline.{outlineReply}
 use Rattle.promises.specs.Ties.{Determined, Answers}
 use Rattle.promises.specs.calls.Chunk as calls
-use Rattle.promises.proofs.Ties.{determined, answers, both}
+use Rattle.promises.proofs.Ties.{determined, answers, answer-number, both}
 
 pub size-of : Determined calls.sizeOf
 size-of = determined calls.sizeOf (λ κs a. tt) λ κs a x e p. p
@@ -33,21 +36,29 @@ pub count : Determined calls.count
 count = determined calls.count (λ κs a. tt) λ κs a x e p. p
 
 pub survey : Answers calls.survey
-survey = answers calls.survey (λ κs a. tt) (λ κs a x e p. p) (λ κs a. refl) λ κs a h. answer-no _ _ _ h
+survey =
+    answers calls.survey (λ κs a. tt) (λ κs a x e p. p) (λ κs a. refl) (λ κs a h. answer-no _ _ _ h)
+    λ κs a. answer-number (λ (x : Survey). x .refusal) _ _ _ refl refl
 
 pub is-listed : Determined calls.isListed
 is-listed = determined calls.isListed (λ κs a. tt) λ κs a x e p. p
 
 pub at : Answers calls.at
-at = answers calls.at (λ κs a. tt) (λ κs a x e p. p) (λ κs a. refl) λ κs a h. answer-no _ _ _ h
+at =
+    answers calls.at (λ κs a. tt) (λ κs a x e p. p) (λ κs a. refl) (λ κs a h. answer-no _ _ _ h)
+    λ κs a. answer-number (λ (x : Heading). x .refusal) _ _ _ refl refl
 
 pub payload : Answers calls.payload
-payload = answers calls.payload (λ κs a. tt) (λ κs a x e p. p) (λ κs a. refl) λ κs a h. answer-no _ _ _ h
+payload = answers calls.payload (λ κs a. tt) (λ κs a x e p. p) (λ κs a. refl) (λ κs a h. answer-no _ _ _ h) λ κs a. tt
 
 pub write-chunk : Answers calls.writeChunk
 unfolding settled writeRoom
-write-chunk = answers calls.writeChunk (λ κs a. tt) (λ κs a x e p. both p) (λ κs a. refl) λ κs a h. both (answer-no _ _ _ h, answer-no _ _ _ h)
+write-chunk =
+    answers calls.writeChunk (λ κs a. tt) (λ κs a x e p. both p) (λ κs a. refl) (λ κs a h. both (answer-no _ _ _ h, answer-no _ _ _ h))
+    λ κs a. settled-refusal _ _
 
 pub outline : Answers calls.outline
 unfolding outlineReply
-outline = answers calls.outline (λ κs a. tt) (λ κs a x e p. p) (λ κs a. refl) λ κs a h. answer-no _ _ _ h
+outline =
+    answers calls.outline (λ κs a. tt) (λ κs a x e p. p) (λ κs a. refl) (λ κs a h. answer-no _ _ _ h)
+    λ κs a. answer-number (λ (x : Runs). x .refusal) _ _ _ refl refl

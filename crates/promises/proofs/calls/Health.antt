@@ -1,53 +1,87 @@
--- Each contract is the tie itself; each refusal is the first arm of `answer`.
+-- Each contract is the tie itself; each refusal is the first arm of `answer`, and the number stands in both arms.
 use Prim.Native.Nat.{ℕ}
-use mathlib.Core.Path.{_≡_, refl, ap, _∙_}
-use mathlib.Core.List.{List, []}
+use mathlib.Core.Path.{_≡_, refl, ap, ap₂, _∙_}
+use mathlib.Core.Bool.{Bool, true, false, cond}
+use mathlib.Core.List.{List, [], _∷_}
 use denote.Ref.{now}
 use Rattle.base.specs.Refusal.{settled}
-use Rattle.base.proofs.Refused.{answer-no}
+use Rattle.base.proofs.Refused.{answer-no, settled-refusal}
+use Rattle.health.specs.declared.packet.Packet.{Packet}
 use Rattle.health.specs.Reading.{readReply}
 use Rattle.health.specs.Writing.{writeRoom}
+use Rattle.health_observation.specs.declared.Observed.{Observed}
 use Rattle.health_observation.specs.Observation.{observationReply}
 use Rattle.health_checksums.specs.Checksums.{checksumsReply}
+use Rattle.health_upsets.specs.declared.UpsetTable.{UpsetTable}
 use Rattle.health_upsets.specs.Upsets.{upsetsReply}
 use Rattle.health_last.specs.declared.Place.{Place}
+use Rattle.health_last.specs.Packets.{foundAt, nowhere, later, lastWhere}
 use Rattle.health_last.specs.Last as last
 use Rattle.promises.specs.Ties.{Determined, Answers}
 use Rattle.promises.specs.calls.Health as calls
-use Rattle.promises.proofs.Ties.{determined, answers, both}
+use Rattle.promises.proofs.Ties.{determined, answers, answer-number, both}
 
 pub judge : Answers calls.judge
-judge = answers calls.judge (λ κs a. tt) (λ κs a x e p. p) (λ κs a. refl) λ κs a h. refl
+judge = answers calls.judge (λ κs a. tt) (λ κs a x e p. p) (λ κs a. refl) (λ κs a h. refl) λ κs a. refl
 
 pub sound-at : Determined calls.soundAt
 sound-at = determined calls.soundAt (λ κs a. tt) λ κs a x e p. p
 
 pub read-packet : Answers calls.readPacket
 unfolding readReply
-read-packet = answers calls.readPacket (λ κs a. tt) (λ κs a x e p. p) (λ κs a. refl) λ κs a h. answer-no _ _ _ h
+read-packet =
+    answers calls.readPacket (λ κs a. tt) (λ κs a x e p. p) (λ κs a. refl) (λ κs a h. answer-no _ _ _ h)
+    λ κs a. answer-number (λ (x : Packet). x .refusal) _ _ _ refl refl
 
 pub write-packet : Answers calls.writePacket
 unfolding settled writeRoom
-write-packet = answers calls.writePacket (λ κs a. tt) (λ κs a x e p. both p) (λ κs a. refl) λ κs a h. both (answer-no _ _ _ h, answer-no _ _ _ h)
+write-packet =
+    answers calls.writePacket (λ κs a. tt) (λ κs a x e p. both p) (λ κs a. refl) (λ κs a h. both (answer-no _ _ _ h, answer-no _ _ _ h))
+    λ κs a. settled-refusal _ _
 
 pub observation : Answers calls.observation
 unfolding observationReply
-observation = answers calls.observation (λ κs a. tt) (λ κs a x e p. p) (λ κs a. refl) λ κs a h. answer-no _ _ _ h
+observation =
+    answers calls.observation (λ κs a. tt) (λ κs a x e p. p) (λ κs a. refl) (λ κs a h. answer-no _ _ _ h)
+    λ κs a. answer-number (λ (x : Observed). x .refusal) _ _ _ refl refl
 
 pub checksums-refusal : Answers calls.checksumsRefusal
-checksums-refusal = answers calls.checksumsRefusal (λ κs a. tt) (λ κs a x e p. p) (λ κs a. refl) λ κs a h. refl
+checksums-refusal = answers calls.checksumsRefusal (λ κs a. tt) (λ κs a x e p. p) (λ κs a. refl) (λ κs a h. refl) λ κs a. refl
 
 pub checksums : Answers calls.checksums
 unfolding checksumsReply
-checksums = answers calls.checksums (λ κs a. tt) (λ κs a x e p. p) (λ κs a. refl) λ κs a h. answer-no _ _ _ h
+checksums = answers calls.checksums (λ κs a. tt) (λ κs a x e p. p) (λ κs a. refl) (λ κs a h. answer-no _ _ _ h) λ κs a. tt
 
 pub upsets : Answers calls.upsets
 unfolding upsetsReply
-upsets = answers calls.upsets (λ κs a. tt) (λ κs a x e p. p) (λ κs a. refl) λ κs a h. answer-no _ _ _ h
+upsets =
+    answers calls.upsets (λ κs a. tt) (λ κs a x e p. p) (λ κs a. refl) (λ κs a h. answer-no _ _ _ h)
+    λ κs a. answer-number (λ (x : UpsetTable). x .refusal) _ _ _ refl refl
+
+-- what is looked for is found at a place, or nowhere
+sought : {C : Type 0} (holds : ℕ → Bool) (ps : List ℕ) → (lastWhere holds ps ≡ nowhere → C) → ((p : ℕ) → lastWhere holds ps ≡ foundAt p → C) → C
+unfolding lastWhere
+sought holds [] none found = none refl
+sought {C} holds (p ∷ ps) none found =
+    sought holds ps (λ e. by-test (holds p) (ap (λ s. later s (cond (holds p) (foundAt p) nowhere)) e))
+    λ q e. found q (ap (λ s. later s (cond (holds p) (foundAt p) nowhere)) e)
+  where
+    by-test : (b : Bool) → lastWhere holds (p ∷ ps) ≡ cond b (foundAt p) nowhere → C
+    by-test true e = found p e
+    by-test false e = none e
+
+-- so what is shown is no refusal
+shown-accepted : (f g : ℕ → Bool) (ps qs : List ℕ) → last.shown (lastWhere f ps) (lastWhere g qs) .refusal ≡ 0
+shown-accepted f g ps qs =
+    sought f ps
+    (λ e. sought g qs (λ d. ap₂ (λ s h. last.shown s h .refusal) e d) λ q d. ap₂ (λ s h. last.shown s h .refusal) e d)
+    λ p e. ap (λ s. last.shown s (lastWhere g qs) .refusal) e
 
 pub last-place : Answers calls.lastPlace
 unfolding last.lastPlaceReply
-last-place = answers calls.lastPlace (λ κs a. tt) (λ κs a x e p. p) (λ κs a. refl) λ κs a h. answer-no _ _ _ h
+last-place =
+    answers calls.lastPlace (λ κs a. tt) (λ κs a x e p. p) (λ κs a. refl) (λ κs a h. answer-no _ _ _ h)
+    λ κs a. answer-number (λ (x : Place). x .refusal) _ _ _ refl (shown-accepted _ _ _ _)
 
 -- where nothing is shown, no part of a recording is
 no-part : (v : ℕ) (science health : List ℕ) → last.partAt (last.place v 0 0) science health ≡ []
@@ -57,5 +91,7 @@ no-part v science health = refl
 pub last-packet : Answers calls.lastPacket
 unfolding last.lastPlaceReply
 last-packet =
-    answers calls.lastPacket (λ κs a. tt) (λ κs a x e p. p) (λ κs a. refl) λ κs (science, (_, (health, _))) h.
-    ap (λ (s : Place). last.partAt s (now science) (now health)) (answer-no _ _ _ h) ∙ no-part _ (now science) (now health)
+    answers calls.lastPacket (λ κs a. tt) (λ κs a x e p. p) (λ κs a. refl)
+    (λ κs (science, (_, (health, _))) h.
+    ap (λ (s : Place). last.partAt s (now science) (now health)) (answer-no _ _ _ h) ∙ no-part _ (now science) (now health))
+    λ κs a. tt

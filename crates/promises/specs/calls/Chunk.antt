@@ -1,5 +1,6 @@
 -- The functions of `chunk`, `chunk_reading`, `chunk_writing` and `chunk_outline`: the contract, what the caller sees, and the definition that says it.
 use Prim.Native.Nat.{ℕ}
+use mathlib.Core.Option.{none, some}
 use mathlib.Core.List.{List, []}
 use lib.ListN.{length, drop}
 use denote.Ref.{now}
@@ -74,6 +75,7 @@ survey =
       defined = counting.surveyReply sync (now recording);
       causes = counting.surveyCauses (now recording);
       refused = λ v. counting.surveyed v 0 0;
+      number = some λ x. x .refusal;
     }
 
 -- `chunk_reading::place::is_listed`
@@ -91,6 +93,7 @@ at =
       defined = place.atReply sync (now recording) (p .0);
       causes = place.atCauses sync (now recording) (p .0);
       refused = λ v. place.heading v 0 0 0;
+      number = some λ x. x .refusal;
     }
 
 -- `chunk_reading::place::payload`
@@ -103,6 +106,7 @@ payload =
       defined = place.payloadReply sync (now recording) (p .0);
       causes = place.atCauses sync (now recording) (p .0);
       refused = λ v. [];
+      number = none;
     }
 
 -- `chunk_writing::write_chunk`
@@ -115,6 +119,7 @@ writeChunk =
       defined = (writeReply kind camera (length (now words)) (length (now room)), writeRoom sync kind camera (now words) (now room));
       causes = writeCauses kind camera (length (now words)) (length (now room));
       refused = λ v. (wrote v 0, now room);
+      number = some λ (x, _). x .refusal;
     }
 
 -- `chunk_outline::outline`
@@ -126,4 +131,5 @@ outline =
       defined = outlineReply sync (now recording);
       causes = outlineCauses (now recording);
       refused = λ v. counted v 0 0;
+      number = some λ x. x .refusal;
     }

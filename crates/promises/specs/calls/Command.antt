@@ -1,6 +1,7 @@
 -- The functions of `command_catalogue`, `command`, `command_reading` and `command_writing`: the contract, what the caller sees, and the definition that says
 -- it.
 use Prim.Native.Nat.{ℕ}
+use mathlib.Core.Option.{none, some}
 use mathlib.Core.List.{List, []}
 use lib.ListN.{length}
 use denote.Ref.{now}
@@ -14,7 +15,7 @@ use Rattle.command_catalogue.proofs as command_catalogue
 use Rattle.command.proofs as command
 use Rattle.command_reading.proofs as command_reading
 use Rattle.command_writing.proofs as command_writing
-use Rattle.promises.specs.Ties.{Function, replies, Call, number, repliesOrRefuses, showsOrRefuses}
+use Rattle.promises.specs.Ties.{Function, replies, Call, numberAlone, repliesOrRefuses, showsOrRefuses}
 
 -- `command_catalogue::asked_wrong`
 abbrev pub askedWrong : Function
@@ -27,7 +28,7 @@ abbrev pub judge : Call
 judge =
     repliesOrRefuses command_catalogue.judge.ended command_catalogue.judge.Reads.Asked command_catalogue.judge.Reads.Post
     λ κs (catalogue, (mode, (type, (qualifier, (address, (word, (bytes, _))))))).
-    number (rules.judgeCauses catalogue mode type qualifier address word (now bytes))
+    numberAlone (rules.judgeCauses catalogue mode type qualifier address word (now bytes))
 
 -- `command::word_at`
 abbrev pub wordAt : Function
@@ -46,7 +47,7 @@ abbrev pub first : Call
 first =
     repliesOrRefuses command.first.ended command.first.Reads.Asked command.first.Reads.Post
     λ κs (argument, (catalogue, (total, _))).
-    number (firstCauses argument catalogue (total .0))
+    numberAlone (firstCauses argument catalogue (total .0))
 
 -- `command_reading::read`
 abbrev pub read : Call
@@ -57,6 +58,7 @@ read =
       defined = readReply catalogue mode (now bytes);
       causes = readCauses catalogue mode (now bytes);
       refused = readRefused;
+      number = some λ x. x .refusal;
     }
 
 -- `command_reading::further`
@@ -69,6 +71,7 @@ further =
       defined = furtherReply catalogue mode (now bytes);
       causes = readCauses catalogue mode (now bytes);
       refused = λ v. [];
+      number = none;
     }
 
 -- `command_writing::write`
@@ -81,4 +84,5 @@ write =
       defined = (writeReply catalogue mode fields (now bytes) (length (now room)), writeRoom catalogue mode fields (now bytes) (now room));
       causes = writeCauses catalogue mode fields (now bytes) (length (now room));
       refused = λ v. (writeRefused v, now room);
+      number = some λ (x, _). x .refusal;
     }

@@ -1,5 +1,6 @@
 -- The functions of `frame` and `frame_reading`: the contract, what the caller sees, and the definition that says it.
 use Prim.Native.Nat.{ℕ}
+use mathlib.Core.Option.{some}
 use mathlib.Core.List.{List}
 use lib.ListN.{length}
 use denote.Ref.{now}
@@ -32,6 +33,7 @@ at =
       defined = atReply sync (now recording) (place .0);
       causes = atCauses sync (now recording) (place .0);
       refused = refused;
+      number = some λ x. x .refusal;
     }
 
 -- `frame_reading::judge`
@@ -43,6 +45,7 @@ judge =
       defined = judgeReply sync (now recording) (place .0);
       causes = judgeCauses sync (now recording) (place .0);
       refused = refused;
+      number = some λ x. x .refusal;
     }
 
 -- `frame_reading::read`
@@ -55,4 +58,5 @@ read =
       defined = (readReply sync (now recording) (place .0) (length (now room)), readRoom sync (now recording) (place .0) (now room));
       causes = readCauses sync (now recording) (place .0) (length (now room));
       refused = λ v. (refused v, now room);
+      number = some λ (x, _). x .refusal;
     }

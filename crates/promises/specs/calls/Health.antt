@@ -1,6 +1,7 @@
 -- The functions of `health`, `health_observation`, `health_checksums`, `health_upsets` and `health_last`: the contract, what the caller sees, and the
 -- definition that says it.
 use Prim.Native.Nat.{ℕ}
+use mathlib.Core.Option.{none, some}
 use mathlib.Core.List.{List, []}
 use lib.ListN.{length}
 use denote.Ref.{now}
@@ -18,14 +19,14 @@ use Rattle.health_observation.proofs as health_observation
 use Rattle.health_checksums.proofs as health_checksums
 use Rattle.health_upsets.proofs as health_upsets
 use Rattle.health_last.proofs as health_last
-use Rattle.promises.specs.Ties.{Function, replies, Call, number, repliesOrRefuses, showsOrRefuses}
+use Rattle.promises.specs.Ties.{Function, replies, Call, numberAlone, repliesOrRefuses, showsOrRefuses}
 
 -- `health::packet::judge`
 abbrev pub judge : Call
 judge =
     repliesOrRefuses health.packet.judge.ended health.packet.judge.Reads.Asked health.packet.judge.Reads.Post
     λ κs (packet, (odd, _)).
-    number (judgeCauses (now packet) odd)
+    numberAlone (judgeCauses (now packet) odd)
 
 -- `health::packet::sound_at`
 abbrev pub soundAt : Function
@@ -42,6 +43,7 @@ readPacket =
       defined = readReply (now packet);
       causes = readCauses (now packet);
       refused = readRefused;
+      number = some λ x. x .refusal;
     }
 
 -- `health::packet::write_packet`
@@ -54,6 +56,7 @@ writePacket =
       defined = (writeReply type (length (now words)) (length (now room)), writeRoom type time (now words) (now room));
       causes = writeCauses type (length (now words)) (length (now room));
       refused = λ v. (wrote v 0, now room);
+      number = some λ (x, _). x .refusal;
     }
 
 -- `health_observation::observation`
@@ -65,6 +68,7 @@ observation =
       defined = observationReply (now packet);
       causes = observationCauses (now packet);
       refused = observationRefused;
+      number = some λ x. x .refusal;
     }
 
 -- `health_checksums::checksums_refusal`
@@ -72,7 +76,7 @@ abbrev pub checksumsRefusal : Call
 checksumsRefusal =
     repliesOrRefuses health_checksums.checksums_refusal.ended health_checksums.checksums_refusal.Reads.Asked health_checksums.checksums_refusal.Reads.Post
     λ κs (packet, _).
-    number (checksumsCauses (now packet))
+    numberAlone (checksumsCauses (now packet))
 
 -- `health_checksums::checksums`
 abbrev pub checksums : Call
@@ -83,6 +87,7 @@ checksums =
       defined = checksumsReply (now packet);
       causes = checksumsCauses (now packet);
       refused = checksumsRefused;
+      number = none;
     }
 
 -- `health_upsets::upsets`
@@ -94,6 +99,7 @@ upsets =
       defined = upsetsReply (now packet);
       causes = upsetsCauses (now packet);
       refused = upsetsRefused;
+      number = some λ x. x .refusal;
     }
 
 -- `health_last::last_place`
@@ -105,6 +111,7 @@ lastPlace =
       defined = lastPlaceReply sync (now science) (now health) type;
       causes = lastCauses sync (now science) (now health) type;
       refused = λ v. place v 0 0;
+      number = some λ x. x .refusal;
     }
 
 -- `health_last::last_packet`
@@ -117,4 +124,5 @@ lastPacket =
       defined = lastPacketReply sync (now science) (now health) type;
       causes = lastCauses sync (now science) (now health) type;
       refused = λ v. [];
+      number = none;
     }

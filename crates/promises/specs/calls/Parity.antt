@@ -1,5 +1,6 @@
 -- The functions of `parity_rows`, `parity` and `parity_units`: the contract, what the caller sees, and the definition that says it.
 use Prim.Native.Nat.{ℕ}
+use mathlib.Core.Option.{some}
 use mathlib.Core.List.{List}
 use lib.ListN.{length}
 use denote.Ref.{now}
@@ -43,6 +44,7 @@ writeUnit =
       defined = (writeReply (length (now words)) (length (now room)), writeRoom (now words) (now room));
       causes = writeCauses (length (now words)) (length (now room));
       refused = λ v. (wrote v 0, now room);
+      number = some λ (x, _). x .refusal;
     }
 
 -- `parity::judge_unit`
@@ -54,6 +56,7 @@ judgeUnit =
       defined = judgeReply (now unit);
       causes = judgeCauses (now unit);
       refused = refused;
+      number = some λ x. x .refusal;
     }
 
 -- `parity::check_unit`
@@ -66,6 +69,7 @@ checkUnit =
       defined = (checkReply (now unit) (length (now room)), checkRoom (now unit) (now room));
       causes = checkCauses (now unit) (length (now room));
       refused = λ v. (refused v, now room);
+      number = some λ (x, _). x .refusal;
     }
 
 -- `parity_units::data_words`

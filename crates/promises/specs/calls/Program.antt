@@ -1,6 +1,7 @@
 -- The functions of `program_input` and `program_output` but those that read or write a descriptor: the contract, what the caller sees, and the definition
 -- that says it.
 use Prim.Native.Nat.{ℕ}
+use mathlib.Core.Option.{some}
 use mathlib.Core.List.{List}
 use lib.ListN.{length}
 use denote.Ref.{now}
@@ -24,6 +25,7 @@ words =
       defined = (wordsReply (length (now bytes)) (most .0) (length (now room)), wordsRoom (now bytes) (most .0) (now room));
       causes = wordsCauses (length (now bytes)) (most .0) (length (now room));
       refused = λ v. (wrote v 0, now room);
+      number = some λ (x, _). x .refusal;
     }
 
 -- `program_output::Out::to`

@@ -1,5 +1,6 @@
 -- The functions of `reel` and `reel_writing`: the contract, what the caller sees, and the definition that says it.
 use Prim.Native.Nat.{ℕ}
+use mathlib.Core.Option.{some}
 use mathlib.Core.List.{List}
 use lib.ListN.{length}
 use denote.Ref.{now}
@@ -20,6 +21,7 @@ read =
       defined = readReply sync (now words);
       causes = readCauses sync (now words);
       refused = λ v. told v 0 0;
+      number = some λ x. x .refusal;
     }
 
 -- `reel_writing::write`
@@ -32,4 +34,5 @@ write =
       defined = (writeReply sync (now recording) (length (now room)), writeRoom sync (now recording) (now room));
       causes = writeCauses sync (now recording) (length (now room));
       refused = λ v. (wrote v 0, now room);
+      number = some λ (x, _). x .refusal;
     }
