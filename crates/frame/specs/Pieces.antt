@@ -9,7 +9,7 @@ use Rattle.chunk.specs.Header.{span}
 use Rattle.chunk.specs.Reading.{listed, reading}
 use Rattle.frame.specs.declared.Frame.{Frame}
 use Rattle.frame.specs.declared.Piece.{Piece}
-use Rattle.frame.specs.Shape.{starts, continues, whole, frameWords}
+use Rattle.frame.specs.Shape.{starts, continues, full, frameWords}
 use Rattle.frame.specs.Described.{frame, described}
 
 -- Of the listed chunks, those that start a frame and those that are stray: continuations that join no frame. `end` and `all` are as in `joining`, of
@@ -20,12 +20,12 @@ framesAndStrays end all (e ∷ es) =
     elim (continues (e .header)) [
       | true ↦
           elim (all && eqb (e .position .0) end) [
-            | true ↦ framesAndStrays (end + span (e .header)) (whole (e .header)) es
+            | true ↦ framesAndStrays (end + span (e .header)) (full (e .header)) es
             | false ↦ e ∷ framesAndStrays 0 false es
           ]
       | false ↦
           elim (starts (e .header)) [
-            | true ↦ e ∷ framesAndStrays (e .position .0 + span (e .header)) (whole (e .header)) es
+            | true ↦ e ∷ framesAndStrays (e .position .0 + span (e .header)) (full (e .header)) es
             | false ↦ framesAndStrays 0 false es
           ]
     ]

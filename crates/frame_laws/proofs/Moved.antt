@@ -16,7 +16,7 @@ use Rattle.chunk_laws.specs.Resync.{moved}
 use Rattle.chunk_laws.proofs.ByPlace.{listed-moved}
 use Rattle.frame.specs.declared.Frame.{Frame}
 use Rattle.frame.specs.declared.Piece.{Piece}
-use Rattle.frame.specs.Shape.{starts, continues, whole, joining, frameWords}
+use Rattle.frame.specs.Shape.{starts, continues, full, joining, frameWords}
 use Rattle.frame.specs.Described.{described}
 use Rattle.frame.specs.Pieces.{framesAndStrays, piecesFrom, frameThere, firstPiece, nextPiece}
 use Rattle.frame.proofs.Joining.{joining-one}
@@ -44,8 +44,8 @@ joining-moved n end all (e ∷ es) = by-join (all && eqb (e .position .0) end &&
     by-join true j more =
         let f : Entry = entry (n + e .position .0) (e .header) in
         joining-one (n + end) all f (moved n es) true (same true j)
-        ∙ ap (λ (m : ℕ). f ∷ joining m (whole (e .header)) (moved n es)) (add-assoc n end (span (e .header)))
-        ∙ ap (λ (l : List Entry). f ∷ l) (more (whole (e .header)))
+        ∙ ap (λ (m : ℕ). f ∷ joining m (full (e .header)) (moved n es)) (add-assoc n end (span (e .header)))
+        ∙ ap (λ (l : List Entry). f ∷ l) (more (full (e .header)))
         ∙ ap (moved n) (sym (joining-one end all e es true j))
     by-join false j more =
         joining-one (n + end) all (entry (n + e .position .0) (e .header)) (moved n es) false (same false j)
@@ -76,13 +76,13 @@ pieces-moved n end all (e ∷ es) =
     picks : (c j s : Bool) → ((m : ℕ) (a : Bool) → framesAndStrays (n + m) a (moved n es) ≡ moved n (framesAndStrays m a es))
         → pick (n + end) all (entry (n + e .position .0) (e .header)) (moved n es) c j s ≡ moved n (pick end all e es c j s)
     picks true true s more =
-        ap (λ (m : ℕ). framesAndStrays m (whole (e .header)) (moved n es)) (add-assoc n end (span (e .header)))
-        ∙ more (end + span (e .header)) (whole (e .header))
+        ap (λ (m : ℕ). framesAndStrays m (full (e .header)) (moved n es)) (add-assoc n end (span (e .header)))
+        ∙ more (end + span (e .header)) (full (e .header))
     picks true false s more = ap (λ (l : List Entry). entry (n + e .position .0) (e .header) ∷ l) (sym (none-held (n + 0) (moved n es)) ∙ more 0 false)
     picks false j true more =
         ap (λ (l : List Entry). entry (n + e .position .0) (e .header) ∷ l)
-        (ap (λ (m : ℕ). framesAndStrays m (whole (e .header)) (moved n es)) (add-assoc n (e .position .0) (span (e .header)))
-        ∙ more (e .position .0 + span (e .header)) (whole (e .header)))
+        (ap (λ (m : ℕ). framesAndStrays m (full (e .header)) (moved n es)) (add-assoc n (e .position .0) (span (e .header)))
+        ∙ more (e .position .0 + span (e .header)) (full (e .header)))
     picks false j false more = sym (none-held (n + 0) (moved n es)) ∙ more 0 false
 
 -- where none is in hand

@@ -19,7 +19,7 @@ use Rattle.chunk.specs.declared.Entry.{Entry}
 use Rattle.chunk.specs.Header.{size, kind, span, legalSize, confirmed}
 use Rattle.chunk.specs.Reading.{entry, listedWords}
 use Rattle.chunk_writing.specs.Writing.{headerWord}
-use Rattle.chunk_laws.specs.Stretch.{Laid, words, offset, entries, whole as wholeChunk, wholeRow}
+use Rattle.chunk_laws.specs.Stretch.{Laid, words, offset, entries, whole, wholeRow}
 use Rattle.chunk_laws.specs.Written.{accepted, written}
 use Rattle.chunk_laws.proofs.Tests.{and-both}
 use Rattle.chunk_laws.proofs.Rows.{whole-length, row-first, row-rest, row-confirmed, row-drop, lists-row, row-at, row-listed, payload-there}
@@ -30,7 +30,7 @@ use Rattle.health.specs.Writing.{packetFrom}
 use Rattle.health_laws.proofs.RoundTrip.{written-is-sound}
 use Rattle.parity_units.specs.Split.{parts, unitsIn, anyDamaged, joinedData, dataWords}
 use Rattle.parity_units.proofs.Split.{joined-length}
-use Rattle.frame.specs.Shape.{starts, continues, whole, joining, frameOf, frameChunks, frameWords, frameCamera, observes, complete}
+use Rattle.frame.specs.Shape.{starts, continues, full, joining, frameOf, frameChunks, frameWords, frameCamera, observes, complete}
 use Rattle.frame.specs.Picture.{payloadOf, unitsOf, frameUnits}
 use Rattle.frame.specs.Described.{frame, described}
 use Rattle.frame.specs.Walk.{startsFrame, closesFrame}
@@ -94,7 +94,7 @@ held-sound (u ∷ us) (d ∷ ds) h = rw (h .0, held-sound us ds (h .2))
 row-append : (cs ds : List Laid) → wholeRow cs ≡ true → wholeRow ds ≡ true → wholeRow (cs ++ ds) ≡ true
 unfolding wholeRow
 row-append [] ds k l = l
-row-append (c ∷ cs) ds k l = and-both (wholeChunk c) _ (row-first c cs k) (row-append cs ds (row-rest c cs k) l)
+row-append (c ∷ cs) ds k l = and-both (whole c) _ (row-first c cs k) (row-append cs ds (row-rest c cs k) l)
 
 row-words : (sync at : ℕ) (cs : List Laid) → wholeRow cs ≡ true → listedWords (entries at cs) ≡ offset sync cs
 unfolding listedWords
@@ -131,7 +131,7 @@ frame-whole : (cam : ℕ) (uss : List (List (List ℕ))) → writable cam uss �
 unfolding wholeRow
 frame-whole cam [] w = refl
 frame-whole cam (us ∷ uss) w =
-    and-both (wholeChunk (written 0 cam (joined us))) _ (written-whole 0 cam (joined us) (taken cam us uss w)) (frame-whole 0 uss (others cam us uss w))
+    and-both (whole (written 0 cam (joined us))) _ (written-whole 0 cam (joined us) (taken cam us uss w)) (frame-whole 0 uss (others cam us uss w))
 
 -- they hold its units
 frame-units : (sync at cam : ℕ) (v : List ℕ) (uss : List (List (List ℕ))) (rest : List Laid) → writable cam uss ≡ true
@@ -141,7 +141,7 @@ frame-units sync at cam v [] rest w e = refl
 frame-units sync at cam v (us ∷ uss) rest w e =
     let c : Laid = written 0 cam (joined us) in
     let h : ℕ = c .header in
-    let k : wholeChunk c ≡ true = written-whole 0 cam (joined us) (taken cam us uss w) in
+    let k : whole c ≡ true = written-whole 0 cam (joined us) (taken cam us uss w) in
     let n : size h ≡ length (joined us) = sym (whole-length c k) in
     let p : payloadOf v (entry at h) ≡ joined us =
     ap (take (size h)) (sym (drop-drop 2 at v) ∙ ap (drop 2) e) ∙ payload-there sync c (frameRow 0 uss ++ rest) k in
@@ -154,19 +154,19 @@ frame-units sync at cam v (us ∷ uss) rest w e =
 -- of the chunks after the first, the frame's own join, and no other, as the next is health
 joins-own : (health : Laid) (after : List Laid) → kind (health .header) ≡ 1 → (cam : ℕ) (us : List (List ℕ)) (uss : List (List (List ℕ)))
     → writable cam (us ∷ uss) ≡ true → fullButLast (us ∷ uss) ≡ true → (end : ℕ)
-    → joining end (whole (headerWord 0 cam (length (joined us)))) (entries end (frameRow 0 uss ++ health ∷ after)) ≡ entries end (frameRow 0 uss)
+    → joining end (full (headerWord 0 cam (length (joined us)))) (entries end (frameRow 0 uss ++ health ∷ after)) ≡ entries end (frameRow 0 uss)
 unfolding fullButLast
 joins-own health after k cam us [] w f end =
-    let all : Bool = whole (headerWord 0 cam (length (joined us))) in
+    let all : Bool = full (headerWord 0 cam (length (joined us))) in
     joining-one end all (entry end (health .header)) (entries (end + span (health .header)) after) false
     (rw (ne-eqb (kind (health .header)) 0 (λ z. omega arith)) (and-false (all && eqb end end)))
 joins-own health after k cam us (vs ∷ uss) w f end =
     let h : ℕ = headerWord 0 0 (length (joined vs)) in
     let t : accepted 0 0 (joined vs) ≡ true = taken 0 vs uss (others cam us (vs ∷ uss) w) in
-    let all : whole (headerWord 0 cam (length (joined us))) ≡ true =
+    let all : full (headerWord 0 cam (length (joined us))) ≡ true =
     rw (size-written 0 cam (joined us) (taken cam us (vs ∷ uss) w)) (and-left (eqb (length (joined us) % 264) 0) _ f) in
     let c : continues h ≡ true = rw (kind-written 0 0 (joined vs) t, camera-written 0 0 (joined vs) t) in
-    joining-one end (whole (headerWord 0 cam (length (joined us)))) (entry end h) (entries (end + span h) (frameRow 0 uss ++ health ∷ after)) true
+    joining-one end (full (headerWord 0 cam (length (joined us)))) (entry end h) (entries (end + span h) (frameRow 0 uss ++ health ∷ after)) true
     (rw (all, eq-eqb end end refl, c))
     ∙ ap (λ (es : List Entry). entry end h ∷ es)
     (joins-own health after k 0 vs uss (others cam us (vs ∷ uss) w) (and-right (eqb (length (joined us) % 264) 0) _ f) (end + span h))
@@ -206,7 +206,7 @@ module _ (sync cam : ℕ) (us : List (List ℕ)) (uss : List (List (List ℕ))) 
 
   rest-whole : wholeRow (closing ∷ after) ≡ true
   unfolding wholeRow
-  rest-whole = and-both (wholeChunk closing) _ (written-whole 1 0 health (w .closing)) k
+  rest-whole = and-both (whole closing) _ (written-whole 1 0 health (w .closing)) k
 
   here-whole : wholeRow (row ++ closing ∷ after) ≡ true
   here-whole = row-append row (closing ∷ after) row-whole rest-whole
@@ -226,7 +226,7 @@ module _ (sync cam : ℕ) (us : List (List ℕ)) (uss : List (List (List ℕ))) 
   own-chunks =
       let n : 0 + span first ≡ span first = zero-add (span first) in
       ap frameOf (lists-row sync 0 (row ++ closing ∷ after) here-whole)
-      ∙ ap (λ (e : ℕ). entry 0 first ∷ joining e (whole first) (entries (0 + span first) (frameRow 0 uss ++ closing ∷ after))) (sym n)
+      ∙ ap (λ (e : ℕ). entry 0 first ∷ joining e (full first) (entries (0 + span first) (frameRow 0 uss ++ closing ∷ after))) (sym n)
       ∙ ap (λ (es : List Entry). entry 0 first ∷ es)
       (joins-own closing after (kind-written 1 0 health (w .closing)) cam us uss (w .image) (w .full) (0 + span first))
 
