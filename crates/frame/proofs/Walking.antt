@@ -19,7 +19,7 @@ use Rattle.parity_units.specs.Split.{dataWords, dataWordsIn}
 use Rattle.frame.specs.declared.shape.Reach.{Reach}
 use Rattle.frame.specs.Shape.{starts, continues, full, joining, frameOf, frameChunks, frameWords, frameCamera, closes, complete}
 use Rattle.frame.specs.Picture.{unitsOf, frameLength}
-use Rattle.frame.specs.Described.{frame, described}
+use Rattle.frame.specs.Described.{description, described}
 use Rattle.frame.specs.Walk.{startsFrame, joinsFrame, closesFrame, reachOf}
 use Rattle.frame.proofs.Joining.{listedFrom, confirmed-inside, next-here, joining-step, joining-stop, closes-at-end, AfterJoined, after-joined}
 use Rattle.frame.proofs.Chunks.{data-more}
@@ -147,7 +147,7 @@ module _ (sync : ℕ) (ws : List ℕ) (s : startsFrame sync ws ≡ true) where
 
   -- a frame is described by how far it reaches and what stands at its end
   pub described-by-reach : (r : Reach) (cam : ℕ) (b : Bool) → r ≡ reachOf sync ws → cam ≡ frameCamera ws
-      → b ≡ closesFrame sync (take (length ws - r .end .0) (drop (r .end .0) ws)) cam → frame 0 cam (r .chunks) b (r .length .0) ≡ described sync ws
+      → b ≡ closesFrame sync (take (length ws - r .end .0) (drop (r .end .0) ws)) cam → description cam (r .chunks) b (r .length .0) ≡ described sync ws
   unfolding described
   described-by-reach r cam b e f g =
       let n : r .end .0 ≡ frameWords sync ws = ap (λ (x : Reach). x .end .0) e in

@@ -14,7 +14,7 @@ use Rattle.chunk.specs.Header.{span}
 use Rattle.chunk.specs.Reading.{entry, listed, listedWords}
 use Rattle.chunk_laws.specs.Resync.{moved}
 use Rattle.chunk_laws.proofs.ByPlace.{listed-moved}
-use Rattle.frame.specs.declared.Frame.{Frame}
+use Rattle.frame.specs.declared.Description.{Description}
 use Rattle.frame.specs.declared.Piece.{Piece}
 use Rattle.frame.specs.Shape.{starts, continues, full, joining, frameWords}
 use Rattle.frame.specs.Described.{described}
@@ -95,7 +95,7 @@ module _ (sync : ℕ) (a s : List ℕ) where
   frame-moved : (p : ℕ) → frameThere sync (a ++ s) (length a + p) ≡ movedPiece (length a) (frameThere sync s p)
   frame-moved p =
       let d : drop (length a + p) (a ++ s) ≡ drop p s = drop-append-add a s p in
-      ap₂ (λ (f : Frame) (n : ℕ). Piece.Frame (record { 0 = length a + p }) f (record { 0 = n })) (ap (described sync) d)
+      ap₂ (λ (x : Description) (n : ℕ). Piece.Frame (record { 0 = length a + p }) x (record { 0 = n })) (ap (described sync) d)
       (ap (λ (v : List ℕ). length a + p + frameWords sync v) d ∙ add-assoc (length a) p (frameWords sync (drop p s)))
 
   first-moved : (es : List Entry) → firstPiece sync (a ++ s) (moved (length a) es) ≡ movedPiece (length a) (firstPiece sync s es)

@@ -32,9 +32,9 @@ use Rattle.parity_units.specs.Split.{parts, unitsIn, anyDamaged, joinedData, da
 use Rattle.parity_units.proofs.Split.{joined-length}
 use Rattle.frame.specs.Shape.{starts, continues, full, joining, frameOf, frameChunks, frameWords, frameCamera, observes, complete}
 use Rattle.frame.specs.Picture.{payloadOf, unitsOf, frameUnits}
-use Rattle.frame.specs.Described.{frame, described}
+use Rattle.frame.specs.Described.{described}
 use Rattle.frame.specs.Walk.{startsFrame, closesFrame}
-use Rattle.frame_reading.specs.Replies.{refused, noFrame, atCauses, judgeCauses, readCauses, atReply, judgeReply, readReply, readRoom}
+use Rattle.frame_reading.specs.Replies.{frame, refused, told, noFrame, atCauses, judgeCauses, readCauses, atReply, judgeReply, readReply, readRoom}
 use Rattle.frame.proofs.Joining.{joining-one}
 use Rattle.frame.proofs.Walking.{complete-at-end}
 use Rattle.frame_laws.specs.Written.{joined, unitRow, frameRow, writable, fullButLast, allUnits, Written, recordingOf, ComesBack, FramesComeBack, ObservationCloses}
@@ -252,7 +252,7 @@ module _ (sync cam : ℕ) (us : List (List ℕ)) (uss : List (List (List ℕ))) 
   data-length : dataWords (frameUnits sync here) ≡ length (joined ds)
   data-length = sym (joined-length (frameUnits sync here)) ∙ ap length data-joined
 
-  own-described : described sync here ≡ frame 0 cam (length (us ∷ uss)) true (length (joined ds))
+  own-described : told (described sync here) ≡ frame 0 cam (length (us ∷ uss)) true (length (joined ds))
   unfolding described
   own-described =
       let n : length (frameChunks sync here) ≡ length (us ∷ uss) =
@@ -284,8 +284,8 @@ module _ (sync cam : ℕ) (us : List (List ℕ)) (uss : List (List (List ℕ))) 
     sound-there =
         ap (λ (v : List ℕ). anyDamaged (frameUnits sync v)) there ∙ ap anyDamaged own-units ∙ held-sound (allUnits (us ∷ uss)) ds (w .hold)
 
-    described-there : described sync (drop place all) ≡ frame 0 cam (length (us ∷ uss)) true (length (joined ds))
-    described-there = ap (described sync) there ∙ own-described
+    described-there : told (described sync (drop place all)) ≡ frame 0 cam (length (us ∷ uss)) true (length (joined ds))
+    described-there = ap (λ (v : List ℕ). told (described sync v)) there ∙ own-described
 
     -- nothing is refused, in a room that is large enough
     accepts : (m : ℕ) → length (joined ds) ≤ m → verdict (readCauses sync all place m) ≡ 0
