@@ -7,7 +7,7 @@ use lib.ListN.{length, getD, take, drop}
 use lib.Dec.{leb, eqb}
 use Rattle.base.specs.Size.{unitWidth, packetWidth}
 use Rattle.chunk.specs.declared.Entry.{Entry}
-use Rattle.chunk.specs.Header.{size, camera, kind, span}
+use Rattle.chunk.specs.Header.{headerWidth, size, camera, kind, span}
 use Rattle.chunk.specs.Reading.{reading, listedWords}
 use Rattle.health.specs.Packet.{soundPacket, packetType}
 
@@ -57,7 +57,7 @@ observes ws cam = soundPacket (take packetWidth ws) && eqb (packetType ws) (3 + 
 -- the next listed chunk after a frame that ends at `end` follows with no skipped word, is health, and its first packet observes the frame's camera
 unfoldable pub closes : List ℕ → ℕ → ℕ → List Entry → Bool
 closes ws end cam [] = false
-closes ws end cam (e ∷ es) = eqb (e .position .0) end && eqb (kind (e .header)) 1 && observes (drop (end + 2) ws) cam
+closes ws end cam (e ∷ es) = eqb (e .position .0) end && eqb (kind (e .header)) 1 && observes (drop (end + headerWidth) ws) cam
 
 -- complete, else cut
 unfoldable pub complete : ℕ → List ℕ → Bool
