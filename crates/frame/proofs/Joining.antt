@@ -16,7 +16,7 @@ use Rattle.chunk.specs.declared.Found.the-variants.{Chunk, End}
 use Rattle.chunk.specs.Header.{kind, span, confirmed}
 use Rattle.chunk.specs.Reading.{entry, listed, listedWords, nextFrom}
 use Rattle.chunk.proofs.Steps.{Next, stepped, ended, found-here, confirmed-bounds, confirmed-end}
-use Rattle.frame.specs.Shape.{continues, whole, joining, observes, closes}
+use Rattle.frame.specs.Shape.{continues, full, joining, observes, closes}
 
 -- the listed chunks from a place on, where no chunk is in hand
 abbrev pub listedFrom : ℕ → List ℕ → ℕ → List Entry
@@ -45,17 +45,17 @@ module _ (sync : ℕ) (ws : List ℕ) (at : ℕ) where
 
 -- one listed chunk, by whether it joins
 pub joining-one : (end : ℕ) (all : Bool) (e : Entry) (es : List Entry) (b : Bool) → all && eqb (e .position .0) end && continues (e .header) ≡ b
-    → joining end all (e ∷ es) ≡ cond b (e ∷ joining (end + span (e .header)) (whole (e .header)) es) []
+    → joining end all (e ∷ es) ≡ cond b (e ∷ joining (end + span (e .header)) (full (e .header)) es) []
 unfolding joining
 joining-one end all e es true q =
-    ap (λ (b : Bool). elim b as (λ x. List Entry) [ true ↦ e ∷ joining (end + span (e .header)) (whole (e .header)) es | false ↦ [] ]) q
+    ap (λ (b : Bool). elim b as (λ x. List Entry) [ true ↦ e ∷ joining (end + span (e .header)) (full (e .header)) es | false ↦ [] ]) q
 joining-one end all e es false q =
-    ap (λ (b : Bool). elim b as (λ x. List Entry) [ true ↦ e ∷ joining (end + span (e .header)) (whole (e .header)) es | false ↦ [] ]) q
+    ap (λ (b : Bool). elim b as (λ x. List Entry) [ true ↦ e ∷ joining (end + span (e .header)) (full (e .header)) es | false ↦ [] ]) q
 
 module _ (sync : ℕ) (ws : List ℕ) (end : ℕ) where
   -- the continuation that stands at the end joins
   pub joining-step : (h : ℕ) → h ≡ getD ws (suc end) 0 → confirmed sync (drop end ws) ≡ true → continues h ≡ true
-      → joining end true (listedFrom sync ws end) ≡ entry end h ∷ joining (end + span h) (whole h) (listedFrom sync ws (end + span h))
+      → joining end true (listedFrom sync ws end) ≡ entry end h ∷ joining (end + span h) (full h) (listedFrom sync ws (end + span h))
   joining-step h q e c =
       let t : true && eqb end end && continues h ≡ true = rw (eq-eqb end end refl, c) in
       ap (joining end true) (next-here sync ws end e .lists ∙ ap (λ (x : ℕ). entry end x ∷ listedFrom sync ws (end + span x)) (sym q))
@@ -138,4 +138,4 @@ module _ (sync : ℕ) (ws : List ℕ) where
           let w : ℕ = getD ws (suc end) 0 in
           let b = confirmed-bounds sync ws end (confirmed-inside sync ws end z) z in
           subst (AfterJoined end) (sym (joining-step sync ws end w refl z y))
-          (after-one-joined end z w refl (joining (end + span w) (whole w) (listedFrom sync ws (end + span w))) (more (end + span w) (whole w) (omega arith) (b .0)))
+          (after-one-joined end z w refl (joining (end + span w) (full w) (listedFrom sync ws (end + span w))) (more (end + span w) (full w) (omega arith) (b .0)))

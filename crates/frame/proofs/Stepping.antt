@@ -17,7 +17,7 @@ use Rattle.chunk.specs.Header.{kind, camera, span}
 use Rattle.chunk.specs.Reading.{nextFrom}
 use Rattle.chunk.proofs.Steps.{Next, ended}
 use Rattle.frame.specs.declared.Piece.{Piece}
-use Rattle.frame.specs.Shape.{starts, continues, whole}
+use Rattle.frame.specs.Shape.{starts, continues, full}
 use Rattle.frame.specs.Walk.{startsFrame}
 use Rattle.frame.specs.Pieces.{framesAndStrays, piecesFrom, frameThere, strayThere, firstPiece, nextPiece}
 use Rattle.frame.proofs.Joining.{listedFrom}
@@ -31,12 +31,12 @@ module _ (end : ℕ) (all : Bool) (e : Entry) (es : List Entry) where
       elim c as (λ x. List Entry) [
         | true ↦
             elim j as (λ x. List Entry) [
-              | true ↦ framesAndStrays (end + span (e .header)) (whole (e .header)) es
+              | true ↦ framesAndStrays (end + span (e .header)) (full (e .header)) es
               | false ↦ e ∷ framesAndStrays 0 false es
             ]
         | false ↦
             elim s as (λ x. List Entry) [
-              | true ↦ e ∷ framesAndStrays (e .position .0 + span (e .header)) (whole (e .header)) es
+              | true ↦ e ∷ framesAndStrays (e .position .0 + span (e .header)) (full (e .header)) es
               | false ↦ framesAndStrays 0 false es
             ]
       ]
@@ -87,7 +87,7 @@ module _ (sync : ℕ) (ws : List ℕ) (p : ℕ) where
 
     -- a chunk that starts a frame
     pub pieces-at-frame : starts (e .header) ≡ true
-        → piecesFrom sync ws p ≡ e ∷ framesAndStrays (e .position .0 + span (e .header)) (whole (e .header)) (listedFrom sync ws q)
+        → piecesFrom sync ws p ≡ e ∷ framesAndStrays (e .position .0 + span (e .header)) (full (e .header)) (listedFrom sync ws q)
     pieces-at-frame s = begins false true (no-continuation (e .header) s) s
 
     pub frame-next : starts (e .header) ≡ true → nextPiece sync ws p ≡ frameThere sync ws (e .position .0)

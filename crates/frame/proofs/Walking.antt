@@ -17,9 +17,9 @@ use Rattle.chunk.specs.Reading.{entry, reading, listedWords}
 use Rattle.chunk.proofs.Steps.{confirmed-bounds}
 use Rattle.parity_units.specs.Split.{dataWords, dataWordsIn}
 use Rattle.frame.specs.declared.shape.Reach.{Reach}
-use Rattle.frame.specs.Shape.{starts, continues, whole, joining, frameOf, frameChunks, frameWords, frameCamera, closes, complete}
+use Rattle.frame.specs.Shape.{starts, continues, full, joining, frameOf, frameChunks, frameWords, frameCamera, closes, complete}
 use Rattle.frame.specs.Picture.{unitsOf, frameLength}
-use Rattle.frame.specs.Described.{frame, described}
+use Rattle.frame.specs.Described.{description, described}
 use Rattle.frame.specs.Walk.{startsFrame, joinsFrame, closesFrame, reachOf}
 use Rattle.frame.proofs.Joining.{listedFrom, confirmed-inside, next-here, joining-step, joining-stop, closes-at-end, AfterJoined, after-joined}
 use Rattle.frame.proofs.Chunks.{data-more}
@@ -55,7 +55,7 @@ module _ (sync : ℕ) (ws : List ℕ) (s : startsFrame sync ws ≡ true) where
   unfolding frameChunks frameOf
   first-and-ahead =
       ap frameOf (next-here sync ws 0 first-confirmed .lists)
-      ∙ ap (λ (n : ℕ). entry 0 first ∷ joining (span first) (whole first) (listedFrom sync ws n)) (zero-add (span first))
+      ∙ ap (λ (n : ℕ). entry 0 first ∷ joining (span first) (full first) (listedFrom sync ws n)) (zero-add (span first))
 
   pub first-walked : (n end sum : ℕ) → n ≡ size first → end ≡ 2 + n → sum ≡ dataWordsIn n → Walked sync ws n 1 end sum
   unfolding listedWords
@@ -128,7 +128,7 @@ module _ (sync : ℕ) (ws : List ℕ) (s : startsFrame sync ws ≡ true) where
   unfolding listedWords
   frame-ends-inside =
       let r : AfterJoined sync ws (span first) (ahead sync ws (size first) (span first)) =
-      after-joined sync ws (length ws) (span first) (whole first) (omega arith) (omega (arith, first-within .0)) in
+      after-joined sync ws (length ws) (span first) (full first) (omega arith) (omega (arith, first-within .0)) in
       omega (arith, r .within, ap listedWords first-and-ahead)
 
   -- whether the frame is complete is a question about the place where it ends
@@ -136,7 +136,7 @@ module _ (sync : ℕ) (ws : List ℕ) (s : startsFrame sync ws ≡ true) where
   unfolding complete listedWords
   complete-at-end =
       let es : List Entry = ahead sync ws (size first) (span first) in
-      let r : AfterJoined sync ws (span first) es = after-joined sync ws (length ws) (span first) (whole first) (omega arith) (omega (arith, first-within .0)) in
+      let r : AfterJoined sync ws (span first) es = after-joined sync ws (length ws) (span first) (full first) (omega arith) (omega (arith, first-within .0)) in
       let w : frameWords sync ws ≡ span first + listedWords es = ap listedWords first-and-ahead in
       let d : drop (length (frameChunks sync ws)) (reading sync ws) ≡ listedFrom sync ws (frameWords sync ws) =
       ap (λ (n : ℕ). drop n (reading sync ws)) (ap length first-and-ahead)
@@ -147,7 +147,7 @@ module _ (sync : ℕ) (ws : List ℕ) (s : startsFrame sync ws ≡ true) where
 
   -- a frame is described by how far it reaches and what stands at its end
   pub described-by-reach : (r : Reach) (cam : ℕ) (b : Bool) → r ≡ reachOf sync ws → cam ≡ frameCamera ws
-      → b ≡ closesFrame sync (take (length ws - r .end .0) (drop (r .end .0) ws)) cam → frame 0 cam (r .chunks) b (r .length .0) ≡ described sync ws
+      → b ≡ closesFrame sync (take (length ws - r .end .0) (drop (r .end .0) ws)) cam → description cam (r .chunks) b (r .length .0) ≡ described sync ws
   unfolding described
   described-by-reach r cam b e f g =
       let n : r .end .0 ≡ frameWords sync ws = ap (λ (x : Reach). x .end .0) e in

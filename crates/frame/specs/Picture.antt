@@ -3,13 +3,13 @@ use Prim.Native.Nat.{ℕ, _+_}
 use mathlib.Core.List.{List, [], _∷_, _++_}
 use lib.ListN.{take, drop}
 use Rattle.chunk.specs.declared.Entry.{Entry}
-use Rattle.chunk.specs.Header.{size}
+use Rattle.chunk.specs.Header.{headerWidth, size}
 use Rattle.parity_units.specs.Split.{unitsIn, joinedData, dataWords}
 use Rattle.frame.specs.Shape.{frameChunks}
 
 -- the payload of a chunk: the words after its two header words
 abbrev pub payloadOf : List ℕ → Entry → List ℕ
-payloadOf ws e = take (size (e .header)) (drop (e .position .0 + 2) ws)
+payloadOf ws e = take (size (e .header)) (drop (e .position .0 + headerWidth) ws)
 
 -- a chunk splits into units of 264 words, the last one possibly shorter
 abbrev pub chunkUnits : List ℕ → Entry → List (List ℕ)

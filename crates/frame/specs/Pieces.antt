@@ -7,10 +7,10 @@ use lib.Dec.{eqb}
 use Rattle.chunk.specs.declared.Entry.{Entry}
 use Rattle.chunk.specs.Header.{span}
 use Rattle.chunk.specs.Reading.{listed, reading}
-use Rattle.frame.specs.declared.Frame.{Frame}
+use Rattle.frame.specs.declared.Description.{Description}
 use Rattle.frame.specs.declared.Piece.{Piece}
-use Rattle.frame.specs.Shape.{starts, continues, whole, frameWords}
-use Rattle.frame.specs.Described.{frame, described}
+use Rattle.frame.specs.Shape.{starts, continues, full, frameWords}
+use Rattle.frame.specs.Described.{description, described}
 
 -- Of the listed chunks, those that start a frame and those that are stray: continuations that join no frame. `end` and `all` are as in `joining`, of
 -- the frame in hand; where none is, `all` is false.
@@ -20,12 +20,12 @@ framesAndStrays end all (e ∷ es) =
     elim (continues (e .header)) [
       | true ↦
           elim (all && eqb (e .position .0) end) [
-            | true ↦ framesAndStrays (end + span (e .header)) (whole (e .header)) es
+            | true ↦ framesAndStrays (end + span (e .header)) (full (e .header)) es
             | false ↦ e ∷ framesAndStrays 0 false es
           ]
       | false ↦
           elim (starts (e .header)) [
-            | true ↦ e ∷ framesAndStrays (e .position .0 + span (e .header)) (whole (e .header)) es
+            | true ↦ e ∷ framesAndStrays (e .position .0 + span (e .header)) (full (e .header)) es
             | false ↦ framesAndStrays 0 false es
           ]
     ]
@@ -64,21 +64,21 @@ nextPiece sync ws p = firstPiece sync ws (piecesFrom sync ws p)
 -- 0 no more, 1 a frame, 2 a stray
 abbrev pub pieceNumber : Piece → ℕ
 pieceNumber Piece.End = 0
-pieceNumber (Piece.Frame p f end) = 1
+pieceNumber (Piece.Frame p d end) = 1
 pieceNumber (Piece.Stray p end) = 2
 
 -- the place where it stands, what the frame is, and the place where it ends; zeros where the case has none
 abbrev pub piecePlace : Piece → ℕ
 piecePlace Piece.End = 0
-piecePlace (Piece.Frame p f end) = p .0
+piecePlace (Piece.Frame p d end) = p .0
 piecePlace (Piece.Stray p end) = p .0
 
-abbrev pub pieceFrame : Piece → Frame
-pieceFrame Piece.End = frame 0 0 0 false 0
-pieceFrame (Piece.Frame p f end) = f
-pieceFrame (Piece.Stray p end) = frame 0 0 0 false 0
+abbrev pub pieceFrame : Piece → Description
+pieceFrame Piece.End = description 0 0 false 0
+pieceFrame (Piece.Frame p d end) = d
+pieceFrame (Piece.Stray p end) = description 0 0 false 0
 
 abbrev pub pieceEnd : Piece → ℕ
 pieceEnd Piece.End = 0
-pieceEnd (Piece.Frame p f end) = end .0
+pieceEnd (Piece.Frame p d end) = end .0
 pieceEnd (Piece.Stray p end) = end .0

@@ -7,7 +7,7 @@ use lib.ListN.{length, getD, take, drop}
 use lib.Dec.{leb, eqb}
 use Rattle.base.specs.Size.{unitWidth, packetWidth}
 use Rattle.chunk.specs.declared.Entry.{Entry}
-use Rattle.chunk.specs.Header.{size, camera, kind, span}
+use Rattle.chunk.specs.Header.{headerWidth, size, camera, kind, span}
 use Rattle.chunk.specs.Reading.{reading, listedWords}
 use Rattle.health.specs.Packet.{soundPacket, packetType}
 
@@ -20,8 +20,8 @@ abbrev pub continues : ℕ → Bool
 continues h = eqb (kind h) 0 && eqb (camera h) 0
 
 -- a chunk whose size is a multiple of a whole unit's 264 words
-abbrev pub whole : ℕ → Bool
-whole h = eqb (size h % unitWidth) 0
+abbrev pub full : ℕ → Bool
+full h = eqb (size h % unitWidth) 0
 
 -- Each directly following continuation joins the frame while every chunk so far is a multiple of 264: `end` is where the last of these chunks ends,
 -- `all` says that every one of them is such a multiple.
@@ -29,14 +29,14 @@ unfoldable pub joining : ℕ → Bool → List Entry → List Entry
 joining end all [] = []
 joining end all (e ∷ es) =
     elim (all && eqb (e .position .0) end && continues (e .header)) [
-      | true ↦ e ∷ joining (end + span (e .header)) (whole (e .header)) es
+      | true ↦ e ∷ joining (end + span (e .header)) (full (e .header)) es
       | false ↦ []
     ]
 
 -- of the listed chunks, the first of which starts a frame, those that make the frame
 unfoldable pub frameOf : List Entry → List Entry
 frameOf [] = []
-frameOf (e ∷ es) = e ∷ joining (span (e .header)) (whole (e .header)) es
+frameOf (e ∷ es) = e ∷ joining (span (e .header)) (full (e .header)) es
 
 -- the chunks of the frame at the front of these words
 unfoldable pub frameChunks : ℕ → List ℕ → List Entry
@@ -57,7 +57,7 @@ observes ws cam = soundPacket (take packetWidth ws) && eqb (packetType ws) (3 + 
 -- the next listed chunk after a frame that ends at `end` follows with no skipped word, is health, and its first packet observes the frame's camera
 unfoldable pub closes : List ℕ → ℕ → ℕ → List Entry → Bool
 closes ws end cam [] = false
-closes ws end cam (e ∷ es) = eqb (e .position .0) end && eqb (kind (e .header)) 1 && observes (drop (end + 2) ws) cam
+closes ws end cam (e ∷ es) = eqb (e .position .0) end && eqb (kind (e .header)) 1 && observes (drop (end + headerWidth) ws) cam
 
 -- complete, else cut
 unfoldable pub complete : ℕ → List ℕ → Bool

@@ -4,7 +4,7 @@ use mathlib.Core.Bool.{Bool, _&&_}
 use mathlib.Core.List.{List}
 use lib.ListN.{length, getD, drop}
 use lib.Dec.{eqb}
-use Rattle.chunk.specs.Header.{kind, confirmed}
+use Rattle.chunk.specs.Header.{headerWidth, kind, confirmed}
 use Rattle.frame.specs.declared.shape.Reach.{Reach}
 use Rattle.frame.specs.Shape.{starts, continues, observes, frameChunks, frameWords}
 use Rattle.frame.specs.Picture.{frameLength}
@@ -19,7 +19,7 @@ joinsFrame sync ws = confirmed sync ws && continues (getD ws 1 0)
 
 -- a health chunk stands at the front of these words, and its first packet observes the camera
 abbrev pub closesFrame : ℕ → List ℕ → ℕ → Bool
-closesFrame sync ws cam = confirmed sync ws && eqb (kind (getD ws 1 0)) 1 && observes (drop 2 ws) cam
+closesFrame sync ws cam = confirmed sync ws && eqb (kind (getD ws 1 0)) 1 && observes (drop headerWidth ws) cam
 
 -- how far the frame at the front of these words reaches: its chunks, its words and its data words
 abbrev pub reachOf : ℕ → List ℕ → Reach

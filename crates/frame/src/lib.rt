@@ -7,9 +7,8 @@ use chunk::header;
 ghost use mathlib.Core.Path.{_≡_};
 ghost use Rattle.frame.specs.Shape.{starts};
 
-// A frame: its camera, how many chunks it has, whether it is complete or cut, and the words of its data.
-pub struct Frame {
-    pub refusal: u8,
+// What is said of a frame: its camera, how many chunks it has, whether it is complete or cut, and the words of its data.
+pub struct Description {
     pub camera: u16,
     pub chunks: usize,
     pub complete: bool,
@@ -19,7 +18,7 @@ pub struct Frame {
 // What comes next in a recording: a frame, complete or cut, or a stray continuation, with the place where it stands and the place where it ends, to go on
 // from; or nothing more.
 pub enum Piece {
-    Frame(Words, Frame, Words),
+    Frame(Words, Description, Words),
     Stray(Words, Words),
     End,
 }

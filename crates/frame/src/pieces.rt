@@ -1,5 +1,5 @@
 // Going through a recording, a frame or a stray at a time.
-use crate::Frame;
+use crate::Description;
 use crate::Piece;
 use crate::shape;
 use base::Words;
@@ -23,15 +23,14 @@ fn frame_there(words: &[u16], sync: u16, place: Words) -> Piece
     let end = reach.end.0;
     let length = reach.length;
     let camera = header::camera_of(from[1]);
-    let frame = Frame {
-        refusal: 0,
+    let description = Description {
         camera,
         chunks: reach.chunks,
         complete: shape::closes(&from[end..], sync, camera),
         length,
     };
     let past = at + end;
-    Piece::Frame(place, frame, Words(past))
+    Piece::Frame(place, description, Words(past))
 }
 
 // The next frame or stray of the reading that begins at a place: health chunks are passed. Going on from the place where it ends, a program goes

@@ -62,7 +62,7 @@ pub fn closes(words: &[u16], sync: u16, camera: u16) -> bool
     ensures { λ r. ⌜ r ≡ closesFrame sync (now (words .entry)) camera ⌝ }
 {
     let health = header::kind_of(base_room::word_at(words, Words(1))) == 1;
-    let observed = base_room::word_at(words, Words(2)) as u32 == 3 + camera as u32;
+    let observed = base_room::word_at(words, HEADER) as u32 == 3 + camera as u32;
     if !(health & observed) {
         return false;
     }

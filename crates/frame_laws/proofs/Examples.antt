@@ -17,9 +17,9 @@ use Rattle.health.specs.Writing.{writtenCrc}
 use Rattle.frame.specs.declared.Piece.{Piece}
 use Rattle.frame.specs.Shape.{joining, frameOf, frameChunks, closes, complete}
 use Rattle.frame.specs.Picture.{unitsOf}
-use Rattle.frame.specs.Described.{frame, described}
+use Rattle.frame.specs.Described.{description, described}
 use Rattle.frame.specs.Pieces.{framesAndStrays, firstPiece, nextPiece}
-use Rattle.frame_reading.specs.Replies.{refused, atReply, judgeReply, readReply, readRoom}
+use Rattle.frame_reading.specs.Replies.{frame, refused, atReply, judgeReply, readReply, readRoom}
 use Rattle.frame_laws.specs.Written.{joined, unitRow, unitRows, fullButLast, WrittenFrame, recordingOf}
 use Rattle.frame_laws.specs.Examples.{sync, image, continuation, health, imageOf, healthCall, Examples}
 
@@ -43,7 +43,7 @@ strays : (nextPiece sync (continuation 0x8000) 0 ≡ Piece.Stray (record { 0 = 0
 unfolding answer atReply firstPiece framesAndStrays described listedAt leftAt listed confirmed headed ends legal legalSize
 strays = (refl, refl)
 
-steps : (nextPiece sync (image 0x8000 ++ continuation 0x8000) 0 ≡ Piece.Frame (record { 0 = 0 }) (frame 0 1 1 false 1) (record { 0 = 11 }))
+steps : (nextPiece sync (image 0x8000 ++ continuation 0x8000) 0 ≡ Piece.Frame (record { 0 = 0 }) (description 1 1 false 1) (record { 0 = 11 }))
     × (nextPiece sync (image 0x8000 ++ continuation 0x8000) 11 ≡ Piece.Stray (record { 0 = 11 }) (record { 0 = 22 }))
     × (nextPiece sync (image 0x8000 ++ continuation 0x8000) 22 ≡ Piece.End)
     × (nextPiece sync (image 0x8000 ++ continuation 0x8000) 1 ≡ Piece.Stray (record { 0 = 11 }) (record { 0 = 22 }))

@@ -16,14 +16,14 @@ use Rattle.chunk.specs.declared.Entry.{Entry}
 use Rattle.chunk.specs.Header.{size, span, legal, headed, confirmed}
 use Rattle.chunk.specs.Reading.{entry, reading, listedWords, leftAt, listedAt}
 use Rattle.chunk.proofs.Headers.{headed-parts, confirmed-within}
-use Rattle.chunk_laws.specs.Stretch.{Laid, words, whole as wholeChunk, wholeRow}
+use Rattle.chunk_laws.specs.Stretch.{Laid, words, whole, wholeRow}
 use Rattle.chunk_laws.specs.Outside.{within, covered}
 use Rattle.chunk_laws.specs.Listed.{Among}
 use Rattle.chunk_laws.proofs.Tests.{and-both}
 use Rattle.chunk_laws.proofs.ByPlace.{listed-place}
 use Rattle.chunk_laws.proofs.Rows.{entries, lists-row}
 use Rattle.parity_units.specs.Split.{unitsIn}
-use Rattle.frame.specs.Shape.{starts, continues, whole, joining, frameOf, frameChunks, frameWords}
+use Rattle.frame.specs.Shape.{starts, continues, full, joining, frameOf, frameChunks, frameWords}
 use Rattle.frame.specs.Picture.{payloadOf, unitsOf, frameUnits}
 use Rattle.frame.specs.Walk.{startsFrame}
 use Rattle.frame.specs.Pieces.{framesAndStrays}
@@ -44,15 +44,15 @@ joined : (end : ℕ) (all : Bool) (es : List Entry) → Joined end all es (joini
 unfolding joining
 joined end all [] = record { endToEnd = tt; among = λ f h. h; again = refl }
 joined end all (e ∷ es) =
-    by-join (all && eqb (e .position .0) end && continues (e .header)) refl (joined (end + span (e .header)) (whole (e .header)) es)
+    by-join (all && eqb (e .position .0) end && continues (e .header)) refl (joined (end + span (e .header)) (full (e .header)) es)
   where
     by-join : (b : Bool) → all && eqb (e .position .0) end && continues (e .header) ≡ b
-        → (let n = end + span (e .header) in Joined n (whole (e .header)) es (joining n (whole (e .header)) es))
+        → (let n = end + span (e .header) in Joined n (full (e .header)) es (joining n (full (e .header)) es))
         → Joined end all (e ∷ es) (joining end all (e ∷ es))
     by-join false j more =
         subst (Joined end all (e ∷ es)) (sym (joining-one end all e es false j)) (record { endToEnd = tt; among = λ f h. absurd h; again = refl })
     by-join true j more =
-        let js : List Entry = joining (end + span (e .header)) (whole (e .header)) es in
+        let js : List Entry = joining (end + span (e .header)) (full (e .header)) es in
         subst (Joined end all (e ∷ es)) (sym (joining-one end all e es true j)) (record {
           endToEnd = (eqb-true (e .position .0) end (and-right all _ (and-left (all && eqb (e .position .0) end) _ j)), more .endToEnd);
           among = λ f h. elim h as (λ x. Among f (e ∷ es)) [ inl z ↦ inl z | inr z ↦ inr (more .among f z) ];
@@ -118,7 +118,7 @@ module _ (sync : ℕ) (ws : List ℕ) where
       let t : HeaderAt sync ws e = s e (inl refl) in
       let l : legal h ≡ true = rw (t .word) (headed-parts sync (drop (e .position .0) ws) (and-left _ _ (t .confirms)) .2) in
       let n : length (payloadOf ws e) ≡ size h = payload-length ws (e .position .0) h (ends-within sync ws e t) in
-      and-both (wholeChunk (record { header = h; payload = payloadOf ws e })) _ (and-both (legal h) _ l (eq-eqb (length (payloadOf ws e)) (size h) n))
+      and-both (whole (record { header = h; payload = payloadOf ws e })) _ (and-both (legal h) _ l (eq-eqb (length (payloadOf ws e)) (size h) n))
       (row-whole es (λ f i. s f (inr i)))
 
   row-words : (at : ℕ) (es : List Entry) → EndToEnd at es → ((e : Entry) → Among e es → HeaderAt sync ws e)
@@ -161,12 +161,12 @@ frame-among : (es : List Entry) (f : Entry) → Among f (frameOf es) → Among f
 unfolding frameOf
 frame-among [] f h = h
 frame-among (e ∷ es) f h =
-    elim h as (λ x. Among f (e ∷ es)) [ inl z ↦ inl z | inr z ↦ inr (joined (span (e .header)) (whole (e .header)) es .among f z) ]
+    elim h as (λ x. Among f (e ∷ es)) [ inl z ↦ inl z | inr z ↦ inr (joined (span (e .header)) (full (e .header)) es .among f z) ]
 
 frame-again : (es : List Entry) → frameOf (frameOf es) ≡ frameOf es
 unfolding frameOf
 frame-again [] = refl
-frame-again (e ∷ es) = ap (λ (l : List Entry). e ∷ l) (joined (span (e .header)) (whole (e .header)) es .again)
+frame-again (e ∷ es) = ap (λ (l : List Entry). e ∷ l) (joined (span (e .header)) (full (e .header)) es .again)
 
 module _ (sync : ℕ) (ws : List ℕ) (s : startsFrame sync ws ≡ true) where
   abbrev fs : List Entry
@@ -178,7 +178,7 @@ module _ (sync : ℕ) (ws : List ℕ) (s : startsFrame sync ws ≡ true) where
   end-to-end : EndToEnd 0 fs
   end-to-end =
       let h : ℕ = getD ws 1 0 in
-      let j = joined (span h) (whole h) (listedFrom sync ws (span h)) in
+      let j = joined (span h) (full h) (listedFrom sync ws (span h)) in
       subst (EndToEnd 0) (sym (first-and-ahead sync ws s)) (refl, rw (zero-add (span h)) (j .endToEnd))
 
   frame-header-at : (e : Entry) → Among e fs → HeaderAt sync ws e
@@ -257,10 +257,10 @@ module _ (e : Entry) (after : List Entry) (c : continues (e .header) ≡ true) w
               → pick end all f (before ++ e ∷ after) x y z ≡ pick end all f before x y z ++ e ∷ framesAndStrays 0 false after
           picks true true z q =
               let g : f .position .0 ≡ end = eqb-true (f .position .0) end (and-right all _ q) in
-              more (end + span (f .header)) (whole (f .header)) (elsewhere (whole (f .header)) _ (ap (λ (m : ℕ). m + span (f .header)) (sym g)))
+              more (end + span (f .header)) (full (f .header)) (elsewhere (full (f .header)) _ (ap (λ (m : ℕ). m + span (f .header)) (sym g)))
           picks true false z q = ap (λ (l : List Entry). f ∷ l) (more 0 false refl)
           picks false y true q =
-              ap (λ (l : List Entry). f ∷ l) (more (f .position .0 + span (f .header)) (whole (f .header)) (elsewhere (whole (f .header)) _ refl))
+              ap (λ (l : List Entry). f ∷ l) (more (f .position .0 + span (f .header)) (full (f .header)) (elsewhere (full (f .header)) _ refl))
           picks false y false q = more 0 false refl
 
 pub stray-after-gap : StrayAfterGap

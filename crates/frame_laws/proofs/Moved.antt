@@ -14,9 +14,9 @@ use Rattle.chunk.specs.Header.{span}
 use Rattle.chunk.specs.Reading.{entry, listed, listedWords}
 use Rattle.chunk_laws.specs.Resync.{moved}
 use Rattle.chunk_laws.proofs.ByPlace.{listed-moved}
-use Rattle.frame.specs.declared.Frame.{Frame}
+use Rattle.frame.specs.declared.Description.{Description}
 use Rattle.frame.specs.declared.Piece.{Piece}
-use Rattle.frame.specs.Shape.{starts, continues, whole, joining, frameWords}
+use Rattle.frame.specs.Shape.{starts, continues, full, joining, frameWords}
 use Rattle.frame.specs.Described.{described}
 use Rattle.frame.specs.Pieces.{framesAndStrays, piecesFrom, frameThere, firstPiece, nextPiece}
 use Rattle.frame.proofs.Joining.{joining-one}
@@ -44,8 +44,8 @@ joining-moved n end all (e ∷ es) = by-join (all && eqb (e .position .0) end &&
     by-join true j more =
         let f : Entry = entry (n + e .position .0) (e .header) in
         joining-one (n + end) all f (moved n es) true (same true j)
-        ∙ ap (λ (m : ℕ). f ∷ joining m (whole (e .header)) (moved n es)) (add-assoc n end (span (e .header)))
-        ∙ ap (λ (l : List Entry). f ∷ l) (more (whole (e .header)))
+        ∙ ap (λ (m : ℕ). f ∷ joining m (full (e .header)) (moved n es)) (add-assoc n end (span (e .header)))
+        ∙ ap (λ (l : List Entry). f ∷ l) (more (full (e .header)))
         ∙ ap (moved n) (sym (joining-one end all e es true j))
     by-join false j more =
         joining-one (n + end) all (entry (n + e .position .0) (e .header)) (moved n es) false (same false j)
@@ -76,13 +76,13 @@ pieces-moved n end all (e ∷ es) =
     picks : (c j s : Bool) → ((m : ℕ) (a : Bool) → framesAndStrays (n + m) a (moved n es) ≡ moved n (framesAndStrays m a es))
         → pick (n + end) all (entry (n + e .position .0) (e .header)) (moved n es) c j s ≡ moved n (pick end all e es c j s)
     picks true true s more =
-        ap (λ (m : ℕ). framesAndStrays m (whole (e .header)) (moved n es)) (add-assoc n end (span (e .header)))
-        ∙ more (end + span (e .header)) (whole (e .header))
+        ap (λ (m : ℕ). framesAndStrays m (full (e .header)) (moved n es)) (add-assoc n end (span (e .header)))
+        ∙ more (end + span (e .header)) (full (e .header))
     picks true false s more = ap (λ (l : List Entry). entry (n + e .position .0) (e .header) ∷ l) (sym (none-held (n + 0) (moved n es)) ∙ more 0 false)
     picks false j true more =
         ap (λ (l : List Entry). entry (n + e .position .0) (e .header) ∷ l)
-        (ap (λ (m : ℕ). framesAndStrays m (whole (e .header)) (moved n es)) (add-assoc n (e .position .0) (span (e .header)))
-        ∙ more (e .position .0 + span (e .header)) (whole (e .header)))
+        (ap (λ (m : ℕ). framesAndStrays m (full (e .header)) (moved n es)) (add-assoc n (e .position .0) (span (e .header)))
+        ∙ more (e .position .0 + span (e .header)) (full (e .header)))
     picks false j false more = sym (none-held (n + 0) (moved n es)) ∙ more 0 false
 
 -- where none is in hand
@@ -95,7 +95,7 @@ module _ (sync : ℕ) (a s : List ℕ) where
   frame-moved : (p : ℕ) → frameThere sync (a ++ s) (length a + p) ≡ movedPiece (length a) (frameThere sync s p)
   frame-moved p =
       let d : drop (length a + p) (a ++ s) ≡ drop p s = drop-append-add a s p in
-      ap₂ (λ (f : Frame) (n : ℕ). Piece.Frame (record { 0 = length a + p }) f (record { 0 = n })) (ap (described sync) d)
+      ap₂ (λ (x : Description) (n : ℕ). Piece.Frame (record { 0 = length a + p }) x (record { 0 = n })) (ap (described sync) d)
       (ap (λ (v : List ℕ). length a + p + frameWords sync v) d ∙ add-assoc (length a) p (frameWords sync (drop p s)))
 
   first-moved : (es : List Entry) → firstPiece sync (a ++ s) (moved (length a) es) ≡ movedPiece (length a) (firstPiece sync s es)

@@ -20,7 +20,7 @@ use Rattle.chunk.proofs.Steps.{past, Next, stepped, found-end}
 use Rattle.chunk_laws.specs.Resync.{moved}
 use Rattle.chunk_laws.proofs.ByPlace.{listed-moved}
 use Rattle.frame.specs.declared.Piece.{Piece}
-use Rattle.frame.specs.Shape.{starts, continues, whole, joining, frameWords}
+use Rattle.frame.specs.Shape.{starts, continues, full, joining, frameWords}
 use Rattle.frame.specs.Walk.{startsFrame}
 use Rattle.frame.specs.Pieces.{framesAndStrays, piecesFrom, frameThere, strayThere, nextPiece}
 use Rattle.frame.proofs.Joining.{joining-one, listedFrom, AfterJoined, after-joined}
@@ -55,7 +55,7 @@ passed end all (e ∷ es) = by-join (all && eqb (e .position .0) end && continue
     by-join true j more =
         let c : continues (e .header) ≡ true = and-right (all && eqb (e .position .0) end) _ j in
         pieces-one end all e es true true (starts (e .header)) c (and-left (all && eqb (e .position .0) end) _ j) refl
-        ∙ more (end + span (e .header)) (whole (e .header))
+        ∙ more (end + span (e .header)) (full (e .header))
         ∙ ap (λ (js : List Entry). framesAndStrays 0 false (drop (length js) (e ∷ es))) (sym (joining-one end all e es true j))
     by-join false j more =
         alone end all e es j
@@ -67,16 +67,16 @@ module _ (sync : ℕ) (ws : List ℕ) where
   -- where the frame at p ends, as the list has it
   frame-end : (p : ℕ) → startsFrame sync (drop p ws) ≡ true
       → (let h = getD (drop p ws) 1 0 in
-      p + frameWords sync (drop p ws) ≡ p + span h + listedWords (joining (p + span h) (whole h) (listedFrom sync ws (p + span h))))
+      p + frameWords sync (drop p ws) ≡ p + span h + listedWords (joining (p + span h) (full h) (listedFrom sync ws (p + span h))))
   unfolding listedWords
   frame-end p s =
       let v : List ℕ = drop p ws in
       let h : ℕ = getD v 1 0 in
       let l : listedFrom sync ws (p + span h) ≡ moved p (listedFrom sync v (span h)) =
       ap (listed sync (p + span h) 0) (sym (drop-drop (span h) p ws)) ∙ listed-moved sync p (span h) 0 (drop (span h) v) in
-      let w : listedWords (joining (p + span h) (whole h) (listedFrom sync ws (p + span h))) ≡ listedWords (ahead sync v (size h) (span h)) =
-      ap (λ (es : List Entry). listedWords (joining (p + span h) (whole h) es)) l
-      ∙ ap listedWords (joining-moved p (span h) (whole h) (listedFrom sync v (span h)))
+      let w : listedWords (joining (p + span h) (full h) (listedFrom sync ws (p + span h))) ≡ listedWords (ahead sync v (size h) (span h)) =
+      ap (λ (es : List Entry). listedWords (joining (p + span h) (full h) es)) l
+      ∙ ap listedWords (joining-moved p (span h) (full h) (listedFrom sync v (span h)))
       ∙ words-moved p (ahead sync v (size h) (span h)) in
       omega (arith, ap listedWords (first-and-ahead sync v s), w)
 
@@ -106,12 +106,12 @@ module _ (sync : ℕ) (ws : List ℕ) where
     after-frame : starts h ≡ true → piecesFrom sync ws p ≡ e ∷ piecesFrom sync ws (at + frameWords sync (drop at ws))
     after-frame s =
         let q : getD (drop at ws) 1 0 ≡ h = getD-drop at ws 1 0 ∙ ap (λ (i : ℕ). getD ws i 0) (add-one at) ∙ sym (n .word) in
-        let js : List Entry = joining (past e) (whole h) (listedFrom sync ws (past e)) in
-        let r : AfterJoined sync ws (past e) js = after-joined sync ws (length ws) (past e) (whole h) (omega arith) (n .within) in
+        let js : List Entry = joining (past e) (full h) (listedFrom sync ws (past e)) in
+        let r : AfterJoined sync ws (past e) js = after-joined sync ws (length ws) (past e) (full h) (omega arith) (n .within) in
         let g : at + frameWords sync (drop at ws) ≡ past e + listedWords js =
         rw q at (frame-end at (frame-starts sync ws p e (past e) n s)) in
         pieces-at-frame sync ws p e (past e) n s
-        ∙ ap (λ (l : List Entry). e ∷ l) (passed (past e) (whole h) (listedFrom sync ws (past e)) ∙ ap (framesAndStrays 0 false) (r .goes-on))
+        ∙ ap (λ (l : List Entry). e ∷ l) (passed (past e) (full h) (listedFrom sync ws (past e)) ∙ ap (framesAndStrays 0 false) (r .goes-on))
         ∙ ap (λ (m : ℕ). e ∷ piecesFrom sync ws m) (sym g)
 
     at-frame : starts h ≡ true → Says sync ws p (frameThere sync ws at)

@@ -21,7 +21,7 @@ use Rattle.chunk_laws.specs.Resync.{from, moved}
 use Rattle.chunk_laws.proofs.ByPlace.{listed-place, reading-from}
 use Rattle.chunk_laws.proofs.Stretch.{unbroken, clean-unbroken}
 use Rattle.chunk_laws.proofs.Resync.{listed-same, listed-late}
-use Rattle.frame.specs.Shape.{starts, continues, whole}
+use Rattle.frame.specs.Shape.{starts, continues, full}
 use Rattle.frame.specs.Pieces.{framesAndStrays, piecesOf, piecesFrom}
 use Rattle.frame.proofs.Joining.{next-here, listedFrom}
 use Rattle.frame.proofs.Stepping.{pick, pieces-one, no-continuation}
@@ -49,7 +49,7 @@ from-one p e es true z = rw (z, from)
 from-one p e es false z = rw (z, from)
 
 frame-first : (end : ℕ) (all : Bool) (e : Entry) (es : List Entry) → starts (e .header) ≡ true
-    → framesAndStrays end all (e ∷ es) ≡ e ∷ framesAndStrays (e .position .0 + span (e .header)) (whole (e .header)) es
+    → framesAndStrays end all (e ∷ es) ≡ e ∷ framesAndStrays (e .position .0 + span (e .header)) (full (e .header)) es
 frame-first end all e es s =
     pieces-one end all e es false (all && eqb (e .position .0) end) true (no-continuation (e .header) s) refl s
 
@@ -65,11 +65,11 @@ from-frame p end all (d ∷ es) e rest f s = by-place (leb p (d .position .0)) r
 
     picks : leb p (d .position .0) ≡ false → ((m : ℕ) (a : Bool) → from p (framesAndStrays m a es) ≡ framesAndStrays 0 false (e ∷ rest))
         → (c j t : Bool) → from p (pick end all d es c j t) ≡ framesAndStrays 0 false (e ∷ rest)
-    picks z more true true t = more (end + span (d .header)) (whole (d .header))
+    picks z more true true t = more (end + span (d .header)) (full (d .header))
     picks z more true false t = passed z (framesAndStrays 0 false es) ∙ more 0 false
     picks z more false j true =
-        passed z (framesAndStrays (d .position .0 + span (d .header)) (whole (d .header)) es)
-        ∙ more (d .position .0 + span (d .header)) (whole (d .header))
+        passed z (framesAndStrays (d .position .0 + span (d .header)) (full (d .header)) es)
+        ∙ more (d .position .0 + span (d .header)) (full (d .header))
     picks z more false j false = more 0 false
 
     by-place : (b : Bool) → leb p (d .position .0) ≡ b

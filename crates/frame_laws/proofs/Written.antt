@@ -20,7 +20,7 @@ use Rattle.chunk.specs.Header.{size, kind, span, legalSize, confirmed}
 use Rattle.chunk.specs.Reading.{entry, listedWords, listedAt}
 use Rattle.chunk_writing.specs.Writing as writes
 use Rattle.chunk_writing.specs.Writing.{headerWord}
-use Rattle.chunk_laws.specs.Stretch.{Laid, words, offset, whole as wholeChunk, wholeRow}
+use Rattle.chunk_laws.specs.Stretch.{Laid, words, offset, whole, wholeRow}
 use Rattle.chunk_laws.specs.Written.{WriterCall, reply, Accepted}
 use Rattle.chunk_laws.proofs.Tests.{and-both}
 use Rattle.chunk_laws.proofs.Rows.{entries, whole-length, row-first, row-rest, row-confirmed, row-drop, lists-row, words-parts, row-at, row-listed, payload-there}
@@ -31,11 +31,11 @@ use Rattle.health_laws.specs.Written as packet
 use Rattle.health_laws.proofs.RoundTrip.{accepted-parts, written-packet, left-is-sound}
 use Rattle.parity_units.specs.Split.{parts, unitsIn, anyDamaged, joinedData, dataWords}
 use Rattle.parity_units.proofs.Split.{joined-length}
-use Rattle.frame.specs.Shape.{starts, continues, whole, joining, frameOf, frameChunks, frameWords, frameCamera, observes, complete}
+use Rattle.frame.specs.Shape.{starts, continues, full, joining, frameOf, frameChunks, frameWords, frameCamera, observes, complete}
 use Rattle.frame.specs.Picture.{payloadOf, unitsOf, frameUnits}
-use Rattle.frame.specs.Described.{frame, described}
+use Rattle.frame.specs.Described.{described}
 use Rattle.frame.specs.Walk.{startsFrame, closesFrame}
-use Rattle.frame_reading.specs.Replies.{refused, noFrame, atCauses, judgeCauses, readCauses, atReply, judgeReply, readReply, readRoom}
+use Rattle.frame_reading.specs.Replies.{frame, refused, told, noFrame, atCauses, judgeCauses, readCauses, atReply, judgeReply, readReply, readRoom}
 use Rattle.frame.proofs.Joining.{joining-one}
 use Rattle.frame.proofs.Walking.{complete-at-end}
 use Rattle.frame_laws.specs.Written.{joined, unitRow, unitRows, fullButLast, allUnits, Image, imageUnits, frameCalls, WrittenFrame, recordingOf, ComesBack, FramesComeBack, ObservationCloses}
@@ -95,7 +95,7 @@ held-sound (u ∷ us) (d ∷ ds) h = rw (h .0, held-sound us ds (h .2))
 row-append : (cs ds : List Laid) → wholeRow cs ≡ true → wholeRow ds ≡ true → wholeRow (cs ++ ds) ≡ true
 unfolding wholeRow
 row-append [] ds k l = l
-row-append (c ∷ cs) ds k l = and-both (wholeChunk c) _ (row-first c cs k) (row-append cs ds (row-rest c cs k) l)
+row-append (c ∷ cs) ds k l = and-both (whole c) _ (row-first c cs k) (row-append cs ds (row-rest c cs k) l)
 
 row-words : (sync at : ℕ) (cs : List Laid) → wholeRow cs ≡ true → listedWords (entries at cs) ≡ offset sync cs
 unfolding listedWords
@@ -141,7 +141,7 @@ frame-whole : (cam : ℕ) (uss : List (List (List ℕ))) → writable cam uss �
 unfolding wholeRow
 frame-whole cam [] w = refl
 frame-whole cam (us ∷ uss) w =
-    and-both (wholeChunk (laidOut 0 cam (joined us))) _ (written-whole 0 cam (joined us) (taken cam us uss w)) (frame-whole 0 uss (others cam us uss w))
+    and-both (whole (laidOut 0 cam (joined us))) _ (written-whole 0 cam (joined us) (taken cam us uss w)) (frame-whole 0 uss (others cam us uss w))
 
 -- they hold its units
 frame-units : (sync at cam : ℕ) (v : List ℕ) (uss : List (List (List ℕ))) (rest : List Laid) → writable cam uss ≡ true
@@ -151,7 +151,7 @@ frame-units sync at cam v [] rest w e = refl
 frame-units sync at cam v (us ∷ uss) rest w e =
     let c : Laid = laidOut 0 cam (joined us) in
     let h : ℕ = c .header in
-    let k : wholeChunk c ≡ true = written-whole 0 cam (joined us) (taken cam us uss w) in
+    let k : whole c ≡ true = written-whole 0 cam (joined us) (taken cam us uss w) in
     let n : size h ≡ length (joined us) = sym (whole-length c k) in
     let p : payloadOf v (entry at h) ≡ joined us =
     ap (take (size h)) (sym (drop-drop 2 at v) ∙ ap (drop 2) e) ∙ payload-there sync c (frameRow 0 uss ++ rest) k in
@@ -164,19 +164,19 @@ frame-units sync at cam v (us ∷ uss) rest w e =
 -- of the chunks after the first, the frame's own join, and no other, as the next is health
 joins-own : (health : Laid) (after : List Laid) → kind (health .header) ≡ 1 → (cam : ℕ) (us : List (List ℕ)) (uss : List (List (List ℕ)))
     → writable cam (us ∷ uss) ≡ true → fullButLast (us ∷ uss) ≡ true → (end : ℕ)
-    → joining end (whole (headerWord 0 cam (length (joined us)))) (entries end (frameRow 0 uss ++ health ∷ after)) ≡ entries end (frameRow 0 uss)
+    → joining end (full (headerWord 0 cam (length (joined us)))) (entries end (frameRow 0 uss ++ health ∷ after)) ≡ entries end (frameRow 0 uss)
 unfolding fullButLast
 joins-own health after k cam us [] w f end =
-    let all : Bool = whole (headerWord 0 cam (length (joined us))) in
+    let all : Bool = full (headerWord 0 cam (length (joined us))) in
     joining-one end all (entry end (health .header)) (entries (end + span (health .header)) after) false
     (rw (ne-eqb (kind (health .header)) 0 (λ z. omega arith)) (and-false (all && eqb end end)))
 joins-own health after k cam us (vs ∷ uss) w f end =
     let h : ℕ = headerWord 0 0 (length (joined vs)) in
     let t : accepted 0 0 (joined vs) ≡ true = taken 0 vs uss (others cam us (vs ∷ uss) w) in
-    let all : whole (headerWord 0 cam (length (joined us))) ≡ true =
+    let all : full (headerWord 0 cam (length (joined us))) ≡ true =
     rw (size-written 0 cam (joined us) (taken cam us (vs ∷ uss) w)) (and-left (eqb (length (joined us) % 264) 0) _ f) in
     let c : continues h ≡ true = rw (kind-written 0 0 (joined vs) t, camera-written 0 0 (joined vs) t) in
-    joining-one end (whole (headerWord 0 cam (length (joined us)))) (entry end h) (entries (end + span h) (frameRow 0 uss ++ health ∷ after)) true
+    joining-one end (full (headerWord 0 cam (length (joined us)))) (entry end h) (entries (end + span h) (frameRow 0 uss ++ health ∷ after)) true
     (rw (all, eq-eqb end end refl, c))
     ∙ ap (λ (es : List Entry). entry end h ∷ es)
     (joins-own health after k 0 vs uss (others cam us (vs ∷ uss) w) (and-right (eqb (length (joined us) % 264) 0) _ f) (end + span h))
@@ -260,7 +260,7 @@ module _ (sync cam : ℕ) (i : Image) (is : List Image) (health : WriterCall) (a
 
   rest-whole : wholeRow (closing ∷ after) ≡ true
   unfolding wholeRow
-  rest-whole = and-both (wholeChunk closing) _ (written-whole (health .kind) (health .camera) (health .payload) closing-taken) k
+  rest-whole = and-both (whole closing) _ (written-whole (health .kind) (health .camera) (health .payload) closing-taken) k
 
   here-whole : wholeRow (row ++ closing ∷ after) ≡ true
   here-whole = row-append row (closing ∷ after) row-whole rest-whole
@@ -280,7 +280,7 @@ module _ (sync cam : ℕ) (i : Image) (is : List Image) (health : WriterCall) (a
   own-chunks =
       let n : 0 + span first ≡ span first = zero-add (span first) in
       ap frameOf (lists-row sync 0 (row ++ closing ∷ after) here-whole)
-      ∙ ap (λ (e : ℕ). entry 0 first ∷ joining e (whole first) (entries (0 + span first) (frameRow 0 uss ++ closing ∷ after))) (sym n)
+      ∙ ap (λ (e : ℕ). entry 0 first ∷ joining e (full first) (entries (0 + span first) (frameRow 0 uss ++ closing ∷ after))) (sym n)
       ∙ ap (λ (es : List Entry). entry 0 first ∷ es)
       (joins-own closing after closing-health cam us uss image-taken (w .full) (0 + span first))
 
@@ -306,7 +306,7 @@ module _ (sync cam : ℕ) (i : Image) (is : List Image) (health : WriterCall) (a
   data-length : dataWords (frameUnits sync here) ≡ length (joined ds)
   data-length = sym (joined-length (frameUnits sync here)) ∙ ap length data-joined
 
-  own-described : described sync here ≡ frame 0 cam (length (i ∷ is)) true (length (joined ds))
+  own-described : told (described sync here) ≡ frame 0 cam (length (i ∷ is)) true (length (joined ds))
   unfolding described
   own-described =
       let n : length (frameChunks sync here) ≡ length (i ∷ is) =
@@ -343,8 +343,8 @@ module _ (sync cam : ℕ) (i : Image) (is : List Image) (health : WriterCall) (a
     sound-there =
         ap (λ (v : List ℕ). anyDamaged (frameUnits sync v)) there ∙ ap anyDamaged own-units ∙ held-sound (allUnits (us ∷ uss)) ds (w .hold)
 
-    described-there : described sync (drop place all) ≡ frame 0 cam (length (i ∷ is)) true (length (joined ds))
-    described-there = ap (described sync) there ∙ own-described
+    described-there : told (described sync (drop place all)) ≡ frame 0 cam (length (i ∷ is)) true (length (joined ds))
+    described-there = ap (λ (v : List ℕ). told (described sync v)) there ∙ own-described
 
     -- nothing is refused, in a room that is large enough
     accepts : (m : ℕ) → length (joined ds) ≤ m → verdict (readCauses sync all place m) ≡ 0

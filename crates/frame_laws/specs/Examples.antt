@@ -8,9 +8,9 @@ use Rattle.base.specs.Refusal.{nothingThere, frameCut}
 use Rattle.chunk_laws.specs.Written.{WriterCall}
 use Rattle.health.specs.Writing.{packetFrom}
 use Rattle.frame.specs.declared.Piece.{Piece}
-use Rattle.frame.specs.Described.{frame}
+use Rattle.frame.specs.Described.{description}
 use Rattle.frame.specs.Pieces.{nextPiece}
-use Rattle.frame_reading.specs.Replies.{refused, atReply, judgeReply, readReply, readRoom}
+use Rattle.frame_reading.specs.Replies.{frame, refused, atReply, judgeReply, readReply, readRoom}
 use Rattle.frame_laws.specs.Written.{Image, WrittenFrame, recordingOf}
 
 abbrev pub sync : ℕ
@@ -56,7 +56,7 @@ pub record Examples : Type 0 where
       × (atReply sync (continuation 0x8000) 0 ≡ refused nothingThere)
   -- a continuation after a chunk that is no multiple of 264 joins nothing: the frame comes first, then the stray, and no more; from a place inside the
   -- frame the stray comes first
-  pub stepped : (nextPiece sync (image 0x8000 ++ continuation 0x8000) 0 ≡ Piece.Frame (record { 0 = 0 }) (frame 0 1 1 false 1) (record { 0 = 11 }))
+  pub stepped : (nextPiece sync (image 0x8000 ++ continuation 0x8000) 0 ≡ Piece.Frame (record { 0 = 0 }) (description 1 1 false 1) (record { 0 = 11 }))
       × (nextPiece sync (image 0x8000 ++ continuation 0x8000) 11 ≡ Piece.Stray (record { 0 = 11 }) (record { 0 = 22 }))
       × (nextPiece sync (image 0x8000 ++ continuation 0x8000) 22 ≡ Piece.End)
       × (nextPiece sync (image 0x8000 ++ continuation 0x8000) 1 ≡ Piece.Stray (record { 0 = 11 }) (record { 0 = 22 }))

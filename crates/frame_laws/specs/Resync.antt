@@ -31,7 +31,7 @@ FramesAsAlone sync a cs =
 -- a frame or stray with its places moved on by n words
 abbrev pub movedPiece : ℕ → Piece → Piece
 movedPiece n Piece.End = Piece.End
-movedPiece n (Piece.Frame p f end) = Piece.Frame (record { 0 = n + p .0 }) f (record { 0 = n + end .0 })
+movedPiece n (Piece.Frame p d end) = Piece.Frame (record { 0 = n + p .0 }) d (record { 0 = n + end .0 })
 movedPiece n (Piece.Stray p end) = Piece.Stray (record { 0 = n + p .0 }) (record { 0 = n + end .0 })
 
 -- Going through the stretch `cs` after the words `a`, a frame or stray at a time.

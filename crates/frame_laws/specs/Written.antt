@@ -13,8 +13,7 @@ use Rattle.chunk_laws.specs.Written.{WriterCall, Accepted, recorded}
 use Rattle.parity_laws.specs.Units.{Hold}
 use Rattle.health_laws.specs.Written as packet
 use Rattle.frame.specs.Shape.{observes}
-use Rattle.frame.specs.Described.{frame}
-use Rattle.frame_reading.specs.Replies.{atReply, judgeReply, readReply, readRoom}
+use Rattle.frame_reading.specs.Replies.{frame, atReply, judgeReply, readReply, readRoom}
 
 -- lists joined
 unfoldable pub joined : List (List ℕ) → List ℕ

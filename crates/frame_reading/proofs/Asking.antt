@@ -19,15 +19,16 @@ use Rattle.chunk.specs.Header.{confirmed}
 use Rattle.chunk.specs.Reading.{entry, leftAt, listedAt}
 use Rattle.chunk.proofs.Steps.{confirmed-bounds}
 use Rattle.parity_units.specs.Split.{anyDamaged, givenData, dataWords}
-use Rattle.frame.specs.declared.Frame.{Frame}
+use Rattle.frame.specs.declared.Description.{Description}
 use Rattle.frame.specs.declared.Piece.{Piece}
 use Rattle.frame.specs.Shape.{starts, frameChunks, complete}
 use Rattle.frame.specs.Picture.{frameUnits, frameLength, frameData}
 use Rattle.frame.specs.Described.{described}
 use Rattle.frame.specs.Pieces.{frameThere, nextPiece}
 use Rattle.frame.specs.Walk.{startsFrame}
+use Rattle.frame_reading.specs.declared.Frame.{Frame}
 use Rattle.frame_reading.specs.Along.{wordsAlong, unitsAlong}
-use Rattle.frame_reading.specs.Replies.{refused, atCauses, atReply, judgeCauses, judgeReply, readCauses, readReply, readRoom}
+use Rattle.frame_reading.specs.Replies.{refused, told, atCauses, atReply, judgeCauses, judgeReply, readCauses, readReply, readRoom}
 use Rattle.frame.proofs.Joining.{confirmed-inside, next-here}
 use Rattle.frame.proofs.Walking.{longer-than-header}
 use Rattle.frame.proofs.Stepping.{frame-next}
@@ -86,11 +87,11 @@ module _ (sync p : ℕ) (ws : List ℕ) where
       piece-here : x ≡ frameThere sync here 0
       piece-here = q ∙ ap (λ (vs : List ℕ). nextPiece sync vs 0) (to-end p ws) ∙ first-piece sync here starts-here
 
-      pub at-given : (a b : Words) (r : Frame) → x ≡ Piece.Frame a r b → r ≡ atReply sync ws p
+      pub at-given : (a b : Words) (d : Description) → x ≡ Piece.Frame a d b → told d ≡ atReply sync ws p
       unfolding atReply
-      at-given a b r t =
-          let e : r ≡ described sync here = cc piece-here in
-          e ∙ sym (answer-yes (verdict (atCauses sync ws p)) refused (described sync here) v)
+      at-given a b d t =
+          let e : d ≡ described sync here = cc piece-here in
+          ap told e ∙ sym (answer-yes (verdict (atCauses sync ws p)) refused (told (described sync here)) v)
 
       pub no-stray : (a b : Words) → x ≡ Piece.Stray a b → ⊥
       no-stray a b t = let z : _≡_ {A = ℕ} 0 1 = cc piece-here in omega arith
@@ -101,38 +102,38 @@ module _ (sync p : ℕ) (ws : List ℕ) where
   pub at-refused : (n : ℕ) → n ≡ verdict (atCauses sync ws p) → (n ≡ 0 → ⊥) → refused n ≡ atReply sync ws p
   unfolding atReply
   at-refused n e h =
-      ap refused e ∙ sym (answer-no (verdict (atCauses sync ws p)) refused (described sync here) (λ z. h (e ∙ z)))
+      ap refused e ∙ sym (answer-no (verdict (atCauses sync ws p)) refused (told (described sync here)) (λ z. h (e ∙ z)))
 
   -- the number in a reply, and the reply where it is 0
-  refusal-of-answer : (v : ℕ) → answer v refused (described sync here) .refusal ≡ v
+  refusal-of-answer : (v : ℕ) → answer v refused (told (described sync here)) .refusal ≡ v
   unfolding answer described
   refusal-of-answer v = by-test (eqb v 0) refl
     where
-      by-test : (b : Bool) → eqb v 0 ≡ b → cond b (described sync here) (refused v) .refusal ≡ v
+      by-test : (b : Bool) → eqb v 0 ≡ b → cond b (told (described sync here)) (refused v) .refusal ≡ v
       by-test true e = sym (eqb-true v 0 e)
       by-test false e = refl
 
-  module _ (cs : Causes) (r : Frame) (e : r ≡ answer (verdict cs) refused (described sync here)) where
+  module _ (cs : Causes) (r : Frame) (e : r ≡ answer (verdict cs) refused (told (described sync here))) where
     refusal-in-reply : r .refusal ≡ verdict cs
     refusal-in-reply = ap (λ (f : Frame). f .refusal) e ∙ refusal-of-answer (verdict cs)
 
     -- a refusal stands, whatever further causes there are
-    refusal-kept : (ds : Causes) → (r .refusal ≡ 0 → ⊥) → r ≡ answer (verdict (cs ++ ds)) refused (described sync here)
-    refusal-kept ds h = e ∙ ap (λ (v : ℕ). answer v refused (described sync here)) (sym (verdict-kept cs ds (λ z. h (refusal-in-reply ∙ z))))
+    refusal-kept : (ds : Causes) → (r .refusal ≡ 0 → ⊥) → r ≡ answer (verdict (cs ++ ds)) refused (told (described sync here))
+    refusal-kept ds h = e ∙ ap (λ (v : ℕ). answer v refused (told (described sync here))) (sym (verdict-kept cs ds (λ z. h (refusal-in-reply ∙ z))))
 
     module _ (z : r .refusal ≡ 0) where
       nothing-refused : verdict cs ≡ 0
       nothing-refused = sym refusal-in-reply ∙ z
 
-      reply-described : r ≡ described sync here
-      reply-described = e ∙ answer-yes (verdict cs) refused (described sync here) nothing-refused
+      reply-described : r ≡ told (described sync here)
+      reply-described = e ∙ answer-yes (verdict cs) refused (told (described sync here)) nothing-refused
 
       -- else the further causes decide
-      further-causes : (ds : Causes) → numbered cs ≡ true → answer (verdict ds) refused r ≡ answer (verdict (cs ++ ds)) refused (described sync here)
+      further-causes : (ds : Causes) → numbered cs ≡ true → answer (verdict ds) refused r ≡ answer (verdict (cs ++ ds)) refused (told (described sync here))
       further-causes ds k = ap₂ (λ (v : ℕ) (f : Frame). answer v refused f) (sym (verdict-further cs ds k nothing-refused)) reply-described
 
   -- the chunks of a frame that starts here, as many as it says
-  module _ (s : startsFrame sync here ≡ true) (r : Frame) (e : r ≡ described sync here) where
+  module _ (s : startsFrame sync here ≡ true) (r : Frame) (e : r ≡ told (described sync here)) where
     chunks-here : r .chunks ≡ length (frameChunks sync here)
     unfolding described
     chunks-here = ap (λ (f : Frame). f .chunks) e
@@ -160,7 +161,7 @@ module _ (sync p : ℕ) (ws : List ℕ) where
       unfolding atReply
       at-accepted = nothing-refused (atCauses sync ws p) r e z
 
-      as-described : r ≡ described sync here
+      as-described : r ≡ told (described sync here)
       unfolding atReply
       as-described = reply-described (atCauses sync ws p) r e z
 
@@ -239,7 +240,7 @@ module _ (sync p : ℕ) (ws : List ℕ) where
       at-accepted-too : verdict (atCauses sync ws p) ≡ 0
       at-accepted-too = let s = spared causes refl read-accepted in rw (s .0, s .1 .0)
 
-      as-read : r ≡ described sync here
+      as-read : r ≡ told (described sync here)
       unfolding readReply
       as-read = reply-described causes r e z
 

@@ -19,7 +19,7 @@ use Rattle.chunk.specs.Reading.{entry, listedWords}
 use Rattle.chunk.proofs.Steps.{confirmed-bounds, confirmed-end}
 use Rattle.parity_units.specs.Split.{unitsIn, anyDamaged, givenData}
 use Rattle.parity_units.proofs.Split.{Fair, fair-append, units-fair, given-all}
-use Rattle.frame.specs.Shape.{starts, continues, whole, joining, frameChunks}
+use Rattle.frame.specs.Shape.{starts, continues, full, joining, frameChunks}
 use Rattle.frame.specs.Picture.{payloadOf, chunkUnits, unitsOf, frameUnits, frameData}
 use Rattle.frame.specs.Walk.{startsFrame}
 use Rattle.frame.proofs.Joining.{listedFrom, confirmed-inside, joining-step, joining-stop}
@@ -62,7 +62,7 @@ module _ (sync : ℕ) (ws : List ℕ) where
       by-join more true true z true y =
           let w : ℕ = getD ws (suc end) 0 in
           subst (Row ws end) (sym (joining-step sync ws end w refl z y))
-          (placed end z (and-left (eqb (kind w) 0) (eqb (camera w) 0) y), more (end + span w) (whole w) (omega arith))
+          (placed end z (and-left (eqb (kind w) 0) (eqb (camera w) 0) y), more (end + span w) (full w) (omega arith))
 
   pub frame-row : startsFrame sync ws ≡ true → Row ws 0 (frameChunks sync ws)
   frame-row s =
@@ -72,8 +72,8 @@ module _ (sync : ℕ) (ws : List ℕ) where
       let n : span w ≡ 0 + span w = sym (zero-add (span w)) in
       subst (Row ws 0) (sym (first-and-ahead sync ws s)) (
         placed 0 c i,
-        subst (λ (m : ℕ). Row ws m (joining (span w) (whole w) (listedFrom sync ws (span w)))) n
-            (joining-row (length ws) (span w) (whole w) (omega arith)),
+        subst (λ (m : ℕ). Row ws m (joining (span w) (full w) (listedFrom sync ws (span w)))) n
+            (joining-row (length ws) (span w) (full w) (omega arith)),
       )
 
 -- ---- a row, told by its header words

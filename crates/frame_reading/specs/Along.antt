@@ -2,7 +2,7 @@
 use Prim.Native.Nat.{ℕ, zero, suc, _+_}
 use mathlib.Core.List.{List, [], _++_}
 use lib.ListN.{getD, take, drop}
-use Rattle.chunk.specs.Header.{size, span}
+use Rattle.chunk.specs.Header.{headerWidth, size, span}
 use Rattle.parity_units.specs.Split.{unitsIn}
 
 -- the words of the first n chunks
@@ -13,4 +13,4 @@ wordsAlong (suc n) ws = span (getD ws 1 0) + wordsAlong n (drop (span (getD ws 1
 -- the units of the first n chunks
 unfoldable pub unitsAlong : ℕ → List ℕ → List (List ℕ)
 unitsAlong zero ws = []
-unitsAlong (suc n) ws = unitsIn (take (size (getD ws 1 0)) (drop 2 ws)) ++ unitsAlong n (drop (span (getD ws 1 0)) ws)
+unitsAlong (suc n) ws = unitsIn (take (size (getD ws 1 0)) (drop headerWidth ws)) ++ unitsAlong n (drop (span (getD ws 1 0)) ws)

@@ -9,13 +9,21 @@ use Rattle.base_room.specs.Room.{put}
 use Rattle.base.specs.Limit.{tooLong}
 use Rattle.chunk.specs.Reading.{listedAt}
 use Rattle.parity_units.specs.Split.{anyDamaged}
-use Rattle.frame.specs.declared.Frame.{Frame}
+use Rattle.frame.specs.declared.Description.{Description}
 use Rattle.frame.specs.Shape.{starts, complete}
 use Rattle.frame.specs.Picture.{frameUnits, frameLength, frameData}
-use Rattle.frame.specs.Described.{frame, described}
+use Rattle.frame.specs.Described.{described}
+use Rattle.frame_reading.specs.declared.Frame.{Frame}
+
+abbrev pub frame : ℕ → ℕ → ℕ → Bool → ℕ → Frame
+frame v cam n all len = record { refusal = v; camera = cam; chunks = n; complete = all; length = record { 0 = len } }
 
 abbrev pub refused : ℕ → Frame
 refused v = frame v 0 0 false 0
+
+-- what is said of a frame, as a reply that refuses nothing
+abbrev pub told : Description → Frame
+told d = frame 0 (d .camera) (d .chunks) (d .complete) (d .length .0)
 
 -- no listed chunk that starts a frame stands at the place
 abbrev pub noFrame : ℕ → List ℕ → ℕ → Bool
@@ -26,7 +34,7 @@ abbrev pub atCauses : ℕ → List ℕ → ℕ → Causes
 atCauses sync ws p = (wrongLength, tooLong ws) ∷ (nothingThere, noFrame sync ws p) ∷ []
 
 unfoldable pub atReply : ℕ → List ℕ → ℕ → Frame
-atReply sync ws p = answer (verdict (atCauses sync ws p)) refused (described sync (drop p ws))
+atReply sync ws p = answer (verdict (atCauses sync ws p)) refused (told (described sync (drop p ws)))
 
 -- whether its data can be had: it is complete, and no unit of it is refused
 abbrev pub judgeCauses : ℕ → List ℕ → ℕ → Causes
@@ -34,14 +42,14 @@ judgeCauses sync ws p =
     atCauses sync ws p ++ (frameCut, not (complete sync (drop p ws))) ∷ (wrongParity, anyDamaged (frameUnits sync (drop p ws))) ∷ []
 
 unfoldable pub judgeReply : ℕ → List ℕ → ℕ → Frame
-judgeReply sync ws p = answer (verdict (judgeCauses sync ws p)) refused (described sync (drop p ws))
+judgeReply sync ws p = answer (verdict (judgeCauses sync ws p)) refused (told (described sync (drop p ws)))
 
 -- its data, in a room of m words
 abbrev pub readCauses : ℕ → List ℕ → ℕ → ℕ → Causes
 readCauses sync ws p m = judgeCauses sync ws p ++ (noRoom, ltb m (frameLength sync (drop p ws))) ∷ []
 
 unfoldable pub readReply : ℕ → List ℕ → ℕ → ℕ → Frame
-readReply sync ws p m = answer (verdict (readCauses sync ws p m)) refused (described sync (drop p ws))
+readReply sync ws p m = answer (verdict (readCauses sync ws p m)) refused (told (described sync (drop p ws)))
 
 -- the room after the call: the joined data at its front and every other word as it was
 unfoldable pub readRoom : ℕ → List ℕ → ℕ → List ℕ → List ℕ

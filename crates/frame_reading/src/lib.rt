@@ -5,13 +5,22 @@ mod picture;
 use base::Words;
 use base::limit;
 use base::refusal;
-use frame::Frame;
+use frame::Description;
 use frame::Piece;
 use frame::pieces;
 ghost use mathlib.Core.Path.{_≡_};
 ghost use lib.ListN.{length};
 ghost use Rattle.base.specs.Refusal.{verdict};
-ghost use Rattle.frame_reading.specs.Replies.{refused, atCauses, atReply, judgeReply, readReply, readRoom};
+ghost use Rattle.frame_reading.specs.Replies.{refused, told, atCauses, atReply, judgeReply, readReply, readRoom};
+
+// The reply of every call here: what is said of a frame; zeros where it is refused.
+pub struct Frame {
+    pub refusal: u8,
+    pub camera: u16,
+    pub chunks: usize,
+    pub complete: bool,
+    pub length: Words,
+}
 
 fn refused(number: u8) -> Frame
     ensures { λ r. ⌜ r ≡ refused number ⌝ }
@@ -22,6 +31,20 @@ fn refused(number: u8) -> Frame
         chunks: 0,
         complete: false,
         length: Words(0),
+    }
+}
+
+// What is said of a frame, as a reply that refuses nothing.
+fn told(said: Description) -> Frame
+    ensures { λ r. ⌜ r ≡ told said ⌝ }
+{
+    let length = said.length;
+    Frame {
+        refusal: 0,
+        camera: said.camera,
+        chunks: said.chunks,
+        complete: said.complete,
+        length,
     }
 }
 
@@ -54,7 +77,7 @@ pub fn at(recording: &[u16], sync: u16, place: Words) -> Frame
     let from = place.0;
     let piece = pieces::next(&recording[from..], sync, Words(0));
     match piece {
-        Piece::Frame(_, frame, _) => frame,
+        Piece::Frame(_, said, _) => told(said),
         Piece::Stray(_, _) => refused(refusal::NOTHING_THERE),
         Piece::End => refused(refusal::NOTHING_THERE),
     }

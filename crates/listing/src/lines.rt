@@ -4,7 +4,7 @@ use chunk::Entry;
 use chunk::Found;
 use chunk::header;
 use chunk::search;
-use frame::Frame;
+use frame::Description;
 use frame::Piece;
 use frame::pieces;
 use program_output::Out;
@@ -61,14 +61,14 @@ pub fn chunks(out: Out, page: &mut [u8; PAGE.0], words: &[u16], sync: u16) -> Ou
     }
 }
 
-fn frame(out: Out, page: &mut [u8; PAGE.0], place: Words, frame: Frame) -> Out {
+fn frame(out: Out, page: &mut [u8; PAGE.0], place: Words, described: Description) -> Out {
     let begun = out.text(page, b"frame ")
         .number(page, place.0)
         .text(page, b" camera ")
-        .number(page, frame.camera as usize)
+        .number(page, described.camera as usize)
         .text(page, b" chunks ")
-        .number(page, frame.chunks);
-    if frame.complete {
+        .number(page, described.chunks);
+    if described.complete {
         return begun.text(page, b" complete\n");
     }
     begun.text(page, b" cut\n")
@@ -87,8 +87,8 @@ pub fn frames_and_strays(out: Out, page: &mut [u8; PAGE.0], words: &[u16], sync:
     loop {
         let piece = pieces::next(words, sync, Words(at));
         match piece {
-            Piece::Frame(place, framed, next) => {
-                said = frame(said, page, place, framed);
+            Piece::Frame(place, described, next) => {
+                said = frame(said, page, place, described);
                 at = next.0;
             }
             Piece::Stray(place, next) => {

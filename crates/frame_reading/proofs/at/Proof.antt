@@ -37,9 +37,10 @@ part-next-start c = let i = inside c in search needs
 
 returns-2 : tie.Need-returns-2
 returns-2 c =
-    let n = c .before .before .before in
+    let n = c .before .before .before .before in
     let t = n .before .before in
-    at-given (a t .args .sync) (a t .args .place .0) (a t .args .recording .now) (none t) _ (n .next .ensures) _ _ _ (c .before .piece .given .1)
+    c .told .ensures
+    ∙ at-given (a t .args .sync) (a t .args .place .0) (a t .args .recording .now) (none t) _ (n .next .ensures) _ _ _ (c .before .before .piece .given .1)
 
 returns-3 : tie.Need-returns-3
 returns-3 c =
@@ -66,6 +67,7 @@ at-spec =
     (λ c. search needs)
     (λ c κs. search needs)
     (λ c. search needs)
+    (λ c κs. search needs)
     (λ c. search needs)
     (λ c κs. search needs)
     (λ c. search needs)

@@ -1,7 +1,7 @@
 -- Each contract is the tie itself; each refusal is the first arm of `answer`, and the number stands in both arms.
 use mathlib.Core.Path.{refl}
 use Rattle.base.proofs.Refused.{answer-no}
-use Rattle.frame.specs.declared.Frame.{Frame}
+use Rattle.frame_reading.specs.declared.Frame.{Frame}
 use Rattle.frame.specs.Described.{described}
 use Rattle.frame_reading.specs.Replies as replies
 use Rattle.promises.specs.Ties.{Determined, Answers}

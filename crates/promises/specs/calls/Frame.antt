@@ -4,7 +4,7 @@ use mathlib.Core.Option.{some}
 use mathlib.Core.List.{List}
 use lib.ListN.{length}
 use denote.Ref.{now}
-use Rattle.frame.specs.declared.Frame.{Frame}
+use Rattle.frame_reading.specs.declared.Frame.{Frame}
 use Rattle.frame.specs.Shape as shape
 use Rattle.frame.specs.Pieces.{nextPiece}
 use Rattle.frame_reading.specs.Replies.{refused, atCauses, atReply, judgeCauses, judgeReply, readCauses, readReply, readRoom}

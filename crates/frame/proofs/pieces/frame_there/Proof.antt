@@ -7,7 +7,7 @@ use Prim.Native.Nat.{ℕ, _+_, _-_, _≤_, _<_}
 use native.Mathlib.Omega.{arith}
 use lib.ListN.{length, take, drop, length-drop}
 use Rattle.base_room.proofs.RoomLaws.{to-end}
-use Rattle.frame.specs.declared.Frame.{Frame}
+use Rattle.frame.specs.declared.Description.{Description}
 use Rattle.frame.specs.declared.Piece.{Piece}
 use Rattle.frame.specs.declared.shape.Reach.{Reach}
 use Rattle.frame.specs.Shape.{frameWords}
@@ -81,7 +81,7 @@ returns : tie.Need-returns
 returns c =
     let m = c .before .before .before .before .before in
     let a = s m .args in
-    ap₂ (λ (f : Frame) (n : ℕ). Piece.Frame (a .place) f (record { 0 = a .place .0 + n }))
+    ap₂ (λ (d : Description) (n : ℕ). Piece.Frame (a .place) d (record { 0 = a .place .0 + n }))
     (described-by-reach (a .sync) (part (s m)) (starts-there (s m)) _ _ _ (m .measure .ensures) (c .before .before .camera-of .ensures) (c .closes .ensures)
     ∙ ap (described (a .sync)) (to-end (a .place .0) (ws (s m))))
     (end-there m ∙ ap (frameWords (a .sync)) (to-end (a .place .0) (ws (s m))))
