@@ -10,7 +10,7 @@ use lib.ListN.{length, getD, drop, take}
 use lib.Seq.{drop-drop, take-at}
 use lib.Dec.{eqb}
 use borrow.Author.Tests.{eq-eqb, not-false, le-ltb, ltb-false}
-use Rattle.base.proofs.Booleans.{and-left, and-right}
+use Rattle.base.proofs.Booleans.{and-left, and-right, and-both}
 use Rattle.base.specs.Limit.{recordingLimit}
 use Rattle.base.specs.Refusal.{verdict, answer, settled}
 use Rattle.base.proofs.Refused.{spared, answer-yes, settled-refusal}
@@ -28,7 +28,6 @@ use Rattle.chunk_writing.proofs.Wrote.{writable-bounds}
 use Rattle.chunk_register.specs.Register.{listCauses, entered, listReply, listRoom}
 use Rattle.chunk_laws.specs.Stretch.{Laid, words, entries, whole, wholeRow}
 use Rattle.chunk_laws.specs.Written.{Call, reply, left, Accepted, recorded, told, GivenAt, entriesAt, GivenBack, WrittenAlone, WrittenInRows, accepted, written}
-use Rattle.chunk_laws.proofs.Tests.{and-both}
 use Rattle.chunk_laws.proofs.Listed.{place-answered}
 use Rattle.chunk_laws.proofs.Rows.{row-first, row-rest, row-confirmed, row-drop, payload-there, left-rest, lists-row, skips-none}
 
