@@ -2,16 +2,15 @@
 use mathlib.Core.Path.{_≡_, refl, sym, ap, _∙_}
 use mathlib.Core.Bool.{true, _&&_}
 use mathlib.Core.List.{List, [], _∷_}
-use Prim.Native.Nat.{ℕ, _+_, _≤_}
+use Prim.Native.Nat.{ℕ, _≤_}
 use native.Mathlib.Omega.{arith}
-use lib.ListN.{length, getD, take, drop}
-use lib.Seq.{take-at}
+use lib.ListN.{length, getD, take}
 use lib.Dec.{eqb}
 use borrow.Author.Tests.{eq-eqb, eqb-true, not-false, ltb-false}
 use Rattle.base.proofs.Booleans.{and-left, and-right}
 use Rattle.base.specs.Refusal.{verdict}
 use Rattle.base.proofs.Refused.{spared, answer-yes, settled-refusal}
-use Rattle.base_room.proofs.RoomLaws.{put-fits}
+use Rattle.base_room.proofs.RoomLaws.{put-front}
 use Rattle.health.specs.Packet.{packetType, packetTime, packetWords, packetCrc, crcRight, permittedType, soundPacket}
 use Rattle.health.specs.Reading.{readCauses, readReply}
 use Rattle.health.specs.Writing.{writableType, writtenCrc, packetFrom, writeCauses, writeVerdict, writeRoom}
@@ -41,10 +40,8 @@ module _ (t s : ℕ) (ws room : List ℕ) (a : Accepted t ws room) where
   pub written-packet : written t s ws room ≡ packetFrom t s ws
   unfolding writeRoom
   written-packet =
-      let p = packetFrom t s ws in
-      let n = written-length t s ws (accepted-parts .0) (accepted-parts .1) in
-      ap (take 32) (answer-yes _ _ _ not-refused ∙ put-fits p 0 room (omega (arith, n, accepted-parts)))
-      ∙ take-at p (drop (0 + length p) room) 32 n
+      ap (take 32) (answer-yes _ _ _ not-refused)
+      ∙ put-front 32 (packetFrom t s ws) room (written-length t s ws (accepted-parts .0) (accepted-parts .1)) (accepted-parts .2)
 
   pub left-is-sound : soundPacket (written t s ws room) ≡ true
   left-is-sound = ap soundPacket written-packet ∙ written-is-sound t s ws (accepted-parts .0) (accepted-parts .1)
