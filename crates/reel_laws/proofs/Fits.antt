@@ -10,9 +10,9 @@ use lib.Dec.{leb, eqb}
 use borrow.Author.Tests.{eqb-true, eqb-false, leb-true, le-ltb, not-false}
 use Rattle.base.proofs.Booleans.{and-left, and-right}
 use Rattle.base.specs.Limit.{reelLimit}
-use Rattle.base.specs.Refusal.{wrongReel, noRoom, verdict, answer}
+use Rattle.base.specs.Refusal.{wrongReel, noRoom, verdict}
 use Rattle.base.specs.declared.Written.{Written}
-use Rattle.base.proofs.Refused.{spared, answer-yes, settled-refusal}
+use Rattle.base.proofs.Refused.{spared, answer-yes, answer-number, settled-refusal}
 use Rattle.base_room.proofs.RoomLaws.{writer-left}
 use Rattle.chunk.specs.declared.Entry.{Entry}
 use Rattle.chunk.specs.Reading.{entry, reading}
@@ -134,15 +134,8 @@ module _ (sync : ℕ) (r : List ℕ) (a : accepted sync r ≡ true) where
 
 -- the number in the reader's reply
 read-number : (sync : ℕ) (r : List ℕ) → readReply sync r .refusal ≡ verdict (readCauses sync r)
-unfolding readReply answer
-read-number sync r = by-verdict (verdict (readCauses sync r))
-  where
-    by-verdict : (v : ℕ) → answer v refused (told 0 (nOf r) (countOf r)) .refusal ≡ v
-    by-verdict v = by-test (eqb v 0) refl
-      where
-        by-test : (b : Bool) → eqb v 0 ≡ b → cond b (told 0 (nOf r) (countOf r)) (refused v) .refusal ≡ v
-        by-test true e = sym (eqb-true v 0 e)
-        by-test false e = refl
+unfolding readReply
+read-number sync r = answer-number (λ (x : Reel). x .refusal) _ refused (told 0 (nOf r) (countOf r)) refl (λ z. refl)
 
 pub accepted-is-written : AcceptedIsWritten
 unfolding readReply
