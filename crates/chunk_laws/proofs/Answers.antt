@@ -1,15 +1,14 @@
 -- The answers of the header check by its two cases, and of the search by its steps (`Steps` of the crate `chunk`).
-use mathlib.Core.Path.{_≡_, refl, sym, ap, _∙_}
+use mathlib.Core.Path.{_≡_, refl, ap}
 use mathlib.Core.Bool.{Bool, true, false, cond}
-use mathlib.Core.List.{List, [], _∷_}
+use mathlib.Core.List.{[], _∷_}
 use Prim.Native.Nat.{ℕ}
 use lib.ListN.{drop}
-use Rattle.chunk.specs.declared.Entry.{Entry}
 use Rattle.chunk.specs.declared.Found.{Found}
 use Rattle.chunk.specs.Header.{confirmed, checkOf, checkNumber}
 use Rattle.chunk.specs.Reading.{nextFrom}
 use Rattle.chunk.proofs.Steps.{stepped, ended}
-use Rattle.chunk_laws.specs.Answers.{CheckTells, firstNumber, firstValues, FindsFirst, SearchTells}
+use Rattle.chunk_laws.specs.Answers.{CheckTells, FindsFirst, SearchTells}
 
 pub check-tells : CheckTells
 check-tells sync ws p = by-answer (confirmed sync (drop p ws))

@@ -14,9 +14,9 @@ use lib.Dec.{eqb}
 use borrow.Author.Tests.{eqb-true, not-true}
 use Rattle.base.proofs.Booleans.{and-left, and-right, or-cases, and-both}
 use Rattle.chunk.specs.Header.{size, span, legal, headed, ends}
-use Rattle.chunk.specs.Reading.{reading, leftAt}
-use Rattle.chunk_laws.specs.Stretch.{Laid, words, offset, entries, whole, wholeRow, lacks, clean, headless, unbroken}
-use Rattle.chunk_laws.proofs.Rows.{whole-length, ends-past, lists-row, left-rest}
+use Rattle.chunk.specs.Reading.{leftAt}
+use Rattle.chunk_laws.specs.Stretch.{Laid, words, offset, whole, wholeRow, lacks, clean, headless, unbroken}
+use Rattle.chunk_laws.proofs.Rows.{whole-length, ends-past, left-rest}
 
 -- ---- legal headers
 
@@ -65,10 +65,6 @@ pub unbroken-row : (sync : ℕ) (cs : List Laid) → unbroken sync cs ≡ true �
 unfolding wholeRow
 unbroken-row sync [] k = refl
 unbroken-row sync (c ∷ cs) k = and-both (whole c) _ (first-whole sync c cs k) (unbroken-row sync cs (rest-unbroken sync c cs k))
-
--- alone, such a stretch is listed whole
-pub stretch-alone : (sync : ℕ) (cs : List Laid) → unbroken sync cs ≡ true → reading sync (words sync cs) ≡ entries 0 cs
-stretch-alone sync cs k = lists-row sync 0 cs (unbroken-row sync cs k)
 
 pub unbroken-after : (sync : ℕ) (before after : List Laid) → unbroken sync (before ++ after) ≡ true → unbroken sync after ≡ true
 unbroken-after sync [] after k = k

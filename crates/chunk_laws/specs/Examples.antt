@@ -1,6 +1,5 @@
 -- FORMAT, "Listing program": the two chunks of its recording as calls of the writer. They are accepted, and with the word of noise before them the words
 -- that they left are the recording.
-use Prim.Native.Nat.{ℕ}
 use mathlib.Core.Path.{_≡_, refl}
 use mathlib.Core.List.{List, [], _∷_}
 use lib.ListN.{replicate}
