@@ -26,6 +26,11 @@ pub or-false : (a b : Bool) → a || b ≡ false → (a ≡ false) × (b ≡ fal
 or-false false b e = (refl, e)
 or-false true b e = absurd (false≢true (sym e))
 
-pub or-assoc : (a b c : Bool) → a || b || c ≡ a || (b || c)
-or-assoc true b c = refl
-or-assoc false b c = refl
+pub or-right : (a b : Bool) → b ≡ true → a || b ≡ true
+or-right true b e = refl
+or-right false b e = e
+
+-- by cases of a test
+pub by-test : {P : Type 0} (b : Bool) → (b ≡ true → P) → (b ≡ false → P) → P
+by-test true p q = p refl
+by-test false p q = q refl

@@ -1,13 +1,14 @@
 -- Laws of verdicts and answers.
-use mathlib.Core.Path.{_≡_, refl, sym}
+use mathlib.Core.Path.{_≡_, refl, sym, ap, _∙_}
 use mathlib.Core.Bool.{Bool, true, false, cond, _&&_}
 use mathlib.Core.List.{List, [], _∷_, _++_}
 use Prim.Native.Nat.{ℕ}
 use native.Mathlib.Omega.{arith}
 use lib.Dec.{ltb, eqb}
-use borrow.Author.Tests.{eq-eqb, ne-eqb, ltb-true, eqb-true}
-use Rattle.base.proofs.Booleans.{and-left, and-right}
-use Rattle.base.specs.Refusal.{Causes, verdict, answer, settled, wrote}
+use borrow.Author.Tests.{eq-eqb, ne-eqb, ltb-true, eqb-true, eqb-false}
+use Rattle.base.proofs.Booleans.{and-left, and-right, by-test}
+use Rattle.base.specs.declared.Written.{Written}
+use Rattle.base.specs.Refusal.{Causes, verdict, answer, settled}
 
 -- no cause's number is 0; `refl` shows it of a list that is written out
 abbrev pub numbered : List (ℕ × Bool) → Bool
@@ -37,6 +38,16 @@ verdict-further [] ds k h = refl
 verdict-further ((n, true) ∷ cs) ds k h = absurd (omega (arith, h, ltb-true 0 n (and-left (ltb 0 n) (numbered cs) k)))
 verdict-further ((n, false) ∷ cs) ds k h = verdict-further cs ds (and-right (ltb 0 n) (numbered cs) k) h
 
+-- where nothing is refused with them, nothing is without them
+pub verdict-front : (cs ds : Causes) → verdict (cs ++ ds) ≡ 0 → verdict cs ≡ 0
+verdict-front [] ds e = refl
+verdict-front ((n, true) ∷ cs) ds e = e
+verdict-front ((n, false) ∷ cs) ds e = verdict-front cs ds e
+
+-- one cause before others, by its parts
+pub cause-by-parts : {a b : Bool} {v w : ℕ} (n : ℕ) → a ≡ b → v ≡ w → cond a n v ≡ cond b n w
+cause-by-parts n p q = cc
+
 pub answer-no : {A : Type 0} (v : ℕ) (f : ℕ → A) (a : A) → (v ≡ 0 → ⊥) → answer v f a ≡ f v
 unfolding answer
 answer-no v f a h = simp (ne-eqb v 0 h)
@@ -45,14 +56,23 @@ pub answer-yes : {A : Type 0} (v : ℕ) (f : ℕ → A) (a : A) → v ≡ 0 → 
 unfolding answer
 answer-yes v f a h = simp (eq-eqb v 0 h)
 
+-- causes and one more: its number is given where they have none
+pub verdict-then : (cs : Causes) (n : ℕ) (b : Bool) → numbered cs ≡ true → verdict (cs ++ (n, b) ∷ []) ≡ answer (verdict cs) (λ v. v) (cond b n 0)
+unfolding answer
+verdict-then [] n b k = refl
+verdict-then ((m, true) ∷ cs) n b k = sym (answer-no m (λ v. v) _ (λ z. omega (arith, z, ltb-true 0 m (and-left (ltb 0 m) _ k))))
+verdict-then ((m, false) ∷ cs) n b k = verdict-then cs n b (and-right (ltb 0 m) _ k)
+
+-- the number in an answer is the verdict, where each refusal has its own and what is given has 0
+pub answer-number : {A : Type 0} (number : A → ℕ) (v : ℕ) (f : ℕ → A) (a : A) → number (f v) ≡ v → (v ≡ 0 → number a ≡ 0) → number (answer v f a) ≡ v
+answer-number number v f a p q =
+    by-test (eqb v 0) (λ t. let z = eqb-true v 0 t in ap number (answer-yes v f a z) ∙ q z ∙ sym z)
+    (λ t. ap number (answer-no v f a (eqb-false v 0 t)) ∙ p)
+
 -- the number in a writer's reply, and the length where nothing is refused
 pub settled-refusal : (v n : ℕ) → settled v n .refusal ≡ v
-unfolding settled answer
-settled-refusal v n = by-cases (eqb v 0) refl
-  where
-    by-cases : (b : Bool) → eqb v 0 ≡ b → cond b (wrote 0 n) (wrote v 0) .refusal ≡ v
-    by-cases true e = sym (eqb-true v 0 e)
-    by-cases false e = refl
+unfolding settled
+settled-refusal v n = answer-number (λ (w : Written). w .refusal) v _ _ refl (λ z. refl)
 
 pub settled-length : (v n : ℕ) → v ≡ 0 → settled v n .length .0 ≡ n
 unfolding settled answer

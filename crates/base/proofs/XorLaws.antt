@@ -1,10 +1,10 @@
--- Laws of the exclusive-or that the toolchain's library lacks: it is associative, it cancels, and it goes bit by bit.
+-- Laws of the exclusive-or that the toolchain's library lacks: it is associative, and it goes bit by bit.
 use mathlib.Core.Path.{_≡_, refl, sym, ap, ap₂, _∙_}
 use Prim.Native.Nat.{ℕ, zero, suc, _+_, _*_, _/_, _%_, _^_, _<_}
 use native.Mathlib.Nat.{mod-lt, not-suc-le-zero, le-of-suc-le-suc}
 use lib.Dec.{lit<}
 use lib.Arith.{bin-ind, digits-div, digits-mod}
-use lib.Bits.{differ, xor-step, xor-comm, xor-self, xor-shr, xor-mod}
+use lib.Bits.{differ, xor-step, xor-comm, xor-shr, xor-mod}
 use Rattle.base.specs.Number.{bitOf}
 use Rattle.base.specs.Xor.{_⊕_}
 
@@ -51,10 +51,6 @@ xor-swap a b c d =
     xor-assoc a b (c ⊕ d)
     ∙ ap (λ (n : ℕ). a ⊕ n) (sym (xor-assoc b c d) ∙ ap (λ (n : ℕ). n ⊕ d) (xor-comm b c) ∙ xor-assoc c b d)
     ∙ sym (xor-assoc a c (b ⊕ d))
-
--- what is exclusive-ored in twice is not there
-pub xor-cancel : (a b : ℕ) → a ⊕ (a ⊕ b) ≡ b
-xor-cancel a b = sym (xor-assoc a a b) ∙ ap (λ (n : ℕ). n ⊕ b) (xor-self a)
 
 -- bit k of an exclusive-or is that of the two bits
 pub xor-bit : (k a b : ℕ) → bitOf (a ⊕ b) k ≡ bitOf a k ⊕ bitOf b k

@@ -25,7 +25,7 @@ put-lent s at d h end e =
     ∙ sym (append-assoc (take at d) s (drop (at + length s) d)) ∙ sym (put-fits s at d h)
 
 -- nothing is written
-put-nothing : (at : ℕ) (d : List ℕ) → at ≤ length d → put [] at d ≡ d
+pub put-nothing : (at : ℕ) (d : List ℕ) → at ≤ length d → put [] at d ≡ d
 put-nothing at d h =
     put-fits [] at d (omega arith) ∙ ap₂ (λ (x y : List ℕ). x ++ y) (append-nil (take at d)) (ap (λ (k : ℕ). drop k d) (add-zero at))
     ∙ take-append-drop at d

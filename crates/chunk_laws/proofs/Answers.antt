@@ -9,14 +9,13 @@ use native.Mathlib.Numerals.{add-one}
 use lib.ListN.{length, getD, drop}
 use lib.Dec.{eqb}
 use borrow.Author.Tests.{eqb-true, eq-eqb}
-use Rattle.base.proofs.Booleans.{and-left, and-right, or-cases}
+use Rattle.base.proofs.Booleans.{and-left, and-right, or-cases, and-both, or-right, by-test}
 use Rattle.chunk.specs.declared.Found.{Found}
 use Rattle.chunk.specs.Header.{span, legal, headed, confirmed, checkOf, checkNumber}
 use Rattle.chunk.specs.Reading.{nextFrom}
 use Rattle.chunk.proofs.Headers.{headed-by-words, headed-inside, confirmed-by-end}
 use Rattle.chunk.proofs.Steps.{stepped, ended}
 use Rattle.chunk_laws.specs.Answers.{HeaderAt, ChunkAt, CheckTells, FindsFirst, SearchTells}
-use Rattle.chunk_laws.proofs.Tests.{and-both, or-right, by-test}
 
 -- ---- the header check
 

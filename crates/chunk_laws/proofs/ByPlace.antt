@@ -10,14 +10,13 @@ use native.Mathlib.Nat.{add-zero, zero-add, suc-add, add-suc}
 use lib.ListN.{getD, drop}
 use lib.Dec.{leb, eqb}
 use borrow.Author.Tests.{eqb-true, le-leb, lt-leb}
-use Rattle.base.proofs.Booleans.{and-left, and-right}
+use Rattle.base.proofs.Booleans.{and-left, and-right, by-test}
 use Rattle.chunk.specs.declared.Entry.{Entry}
 use Rattle.chunk.specs.Header.{size, headed, confirmed}
 use Rattle.chunk.specs.Reading.{entry, listed, reading, skippedFrom, leftAt, listedAt}
 use Rattle.chunk.proofs.Steps.{listed-at-yes}
 use Rattle.chunk_laws.specs.Listed.{Among}
 use Rattle.chunk_laws.specs.Resync.{from, moved}
-use Rattle.chunk_laws.proofs.Tests.{by-test}
 
 -- ---- one word read where no chunk is in hand, by whether one is confirmed there
 

@@ -1,4 +1,3 @@
-pub mod Tests
 pub mod Accounting
 pub mod ByPlace
 pub mod Listed

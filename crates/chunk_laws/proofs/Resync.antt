@@ -12,7 +12,7 @@ use lib.ListN.{length, getD, drop}
 use lib.Seq.{drop-append-add, drop-append-seam}
 use lib.Dec.{eqb}
 use borrow.Author.Tests.{eqb-true}
-use Rattle.base.proofs.Booleans.{and-left, and-right}
+use Rattle.base.proofs.Booleans.{and-left, and-right, by-test}
 use Rattle.chunk.specs.Header.{size, span, legal, headed, ends, confirmed}
 use Rattle.chunk.specs.Reading.{entry, reading, leftAt, listedAt}
 use Rattle.chunk.proofs.Headers.{legal-bounds, headed-parts, ends-within}
@@ -20,7 +20,6 @@ use Rattle.chunk.proofs.Steps.{left-split, left-on}
 use Rattle.chunk_laws.specs.Stretch.{Laid, words, offset, wholeRow, clean}
 use Rattle.chunk_laws.specs.Listed.{Among}
 use Rattle.chunk_laws.specs.Resync.{from, moved, ReadAsAlone}
-use Rattle.chunk_laws.proofs.Tests.{by-test}
 use Rattle.chunk_laws.proofs.ByPlace.{left-end, reading-from, listed-moved, place-listed, listed-place}
 use Rattle.chunk_laws.proofs.Rows.{whole-legal, ends-step, ends-past, row-first, row-after, row-at, words-parts, row-listed}
 use Rattle.chunk_laws.proofs.Stretch.{unbroken, clean-unbroken, unbroken-row, unbroken-after, not-inside, ends-at-boundary}

@@ -10,13 +10,12 @@ use lib.ListN.{length, drop, take, length-append}
 use lib.Seq.{drop-append-seam, drop-at, take-at}
 use lib.Dec.{eqb, eqb·suc-suc}
 use borrow.Author.Tests.{eqb-true, eq-eqb}
-use Rattle.base.proofs.Booleans.{and-left, and-right}
+use Rattle.base.proofs.Booleans.{and-left, and-right, and-both, or-right}
 use Rattle.chunk.specs.declared.Entry.{Entry}
 use Rattle.chunk.specs.Header.{size, span, legal, headed, ends, confirmed}
 use Rattle.chunk.specs.Reading.{entry, listed, skippedFrom, skipped, leftAt, listedAt}
 use Rattle.chunk.proofs.Steps.{listed-on, skipped-on, left-split, listed-at-yes}
 use Rattle.chunk_laws.specs.Stretch.{Laid, words, offset, whole, wholeRow}
-use Rattle.chunk_laws.proofs.Tests.{and-both, or-right}
 use Rattle.chunk_laws.proofs.ByPlace.{list-step, skip-step, left-step, left-end}
 
 -- ---- what a whole chunk has

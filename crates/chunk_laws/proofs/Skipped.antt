@@ -10,15 +10,15 @@ use native.Mathlib.Numerals.{one-add}
 use lib.ListN.{length, getD}
 use lib.Dec.{ltb}
 use borrow.Author.Tests.{lt-ltb, le-ltb, le-leb, lt-leb}
+use Rattle.base.proofs.Booleans.{by-test}
 use Rattle.base.specs.Limit.{recordingLimit}
 use Rattle.base.specs.Refusal.{verdict}
 use Rattle.base.proofs.Refused.{answer-yes}
 use Rattle.chunk.specs.Header.{size, span, confirmed}
 use Rattle.chunk.specs.Reading.{listed, reading, skippedFrom, skipped}
 use Rattle.chunk_reading.specs.declared.Survey.{Survey}
-use Rattle.chunk_reading.specs.Counting.{surveyCauses, refused, surveyReply}
+use Rattle.chunk_reading.specs.Counting.{surveyCauses, refused}
 use Rattle.chunk_laws.specs.Outside.{covered, failing, outside, SkippedByPlace}
-use Rattle.chunk_laws.proofs.Tests.{by-test}
 use Rattle.chunk_laws.proofs.Accounting.{accounted}
 use Rattle.chunk_laws.proofs.ByPlace.{list-step, skip-step}
 

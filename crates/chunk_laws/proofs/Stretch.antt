@@ -12,11 +12,10 @@ use lib.ListN.{length, drop, length-append}
 use lib.Seq.{drop-drop}
 use lib.Dec.{eqb}
 use borrow.Author.Tests.{eqb-true, not-true}
-use Rattle.base.proofs.Booleans.{and-left, and-right, or-cases}
+use Rattle.base.proofs.Booleans.{and-left, and-right, or-cases, and-both}
 use Rattle.chunk.specs.Header.{size, span, legal, headed, ends}
 use Rattle.chunk.specs.Reading.{leftAt}
 use Rattle.chunk_laws.specs.Stretch.{Laid, words, offset, whole, wholeRow, lacks, clean}
-use Rattle.chunk_laws.proofs.Tests.{and-both}
 use Rattle.chunk_laws.proofs.Rows.{whole-length, ends-past, left-rest}
 
 -- no legal header begins at one of the first n of these words

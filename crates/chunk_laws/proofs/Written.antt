@@ -7,28 +7,26 @@ use Prim.Native.Nat.{ℕ, suc, _+_, _≤_}
 use native.Mathlib.Omega.{arith}
 use native.Mathlib.Nat.{add-zero}
 use lib.ListN.{length, getD, drop, take}
-use lib.Seq.{drop-drop, take-at}
+use lib.Seq.{drop-drop}
 use lib.Dec.{eqb}
 use borrow.Author.Tests.{eq-eqb, not-false, le-ltb, ltb-false}
-use Rattle.base.proofs.Booleans.{and-left, and-right}
+use Rattle.base.proofs.Booleans.{and-left, and-right, and-both}
 use Rattle.base.specs.Limit.{recordingLimit}
-use Rattle.base.specs.Refusal.{verdict, answer, settled}
-use Rattle.base.proofs.Refused.{spared, answer-yes, settled-refusal}
-use Rattle.base_room.specs.Room.{put}
-use Rattle.base_room.proofs.RoomLaws.{put-fits}
+use Rattle.base.specs.Refusal.{verdict}
+use Rattle.base.proofs.Refused.{spared, answer-yes, settled-refusal, settled-length}
+use Rattle.base_room.proofs.RoomLaws.{writer-left}
 use Rattle.chunk.specs.declared.Entry.{Entry}
 use Rattle.chunk.specs.Header.{size, camera, kind, span, legalSize, legal, confirmed}
 use Rattle.chunk.specs.Reading.{entry, reading, skipped, leftAt, listedAt}
 use Rattle.chunk.proofs.Headers.{legal-size}
 use Rattle.chunk.proofs.Steps.{left-split, listed-at-yes}
 use Rattle.chunk_reading.specs.Counting.{surveyCauses, surveyed, refused, surveyReply}
-use Rattle.chunk_reading.specs.Place.{heading, headingOf, atReply, payloadReply}
-use Rattle.chunk_writing.specs.Writing.{writable, writeCauses, headerWord, chunkOf, writeReply, writeRoom}
+use Rattle.chunk_reading.specs.Place.{headingOf}
+use Rattle.chunk_writing.specs.Writing.{writable, writeCauses, headerWord, chunkOf, writeRoom}
 use Rattle.chunk_writing.proofs.Wrote.{writable-bounds}
 use Rattle.chunk_register.specs.Register.{listCauses, entered, listReply, listRoom}
 use Rattle.chunk_laws.specs.Stretch.{Laid, words, whole, wholeRow}
 use Rattle.chunk_laws.specs.Written.{WriterCall, reply, written, Accepted, recorded, told, GivenAt, entriesAt, GivenBack, WrittenAlone, WrittenInRows}
-use Rattle.chunk_laws.proofs.Tests.{and-both}
 use Rattle.chunk_laws.proofs.Listed.{place-answered}
 use Rattle.chunk_laws.proofs.Rows.{entries, row-first, row-rest, row-confirmed, row-drop, payload-there, left-rest, lists-row, skips-none}
 
@@ -94,16 +92,12 @@ module _ (c : WriterCall) (z : reply c .refusal ≡ 0) where
       ltb-false (length (c .room)) (length (c .payload) + 2) (s .1 .1 .0)
 
   length-replied : reply c .length .0 ≡ length (c .payload) + 2
-  unfolding settled
-  length-replied = rw (answer-yes number _ _ none-refused)
+  length-replied = settled-length number (length (c .payload) + 2) none-refused
 
   -- and left the words of its chunk
   chunk-written : (sync : ℕ) → written sync c ≡ chunkOf sync (c .kind) (c .camera) (c .payload)
   unfolding writeRoom
-  chunk-written sync =
-      let ws : List ℕ = chunkOf sync (c .kind) (c .camera) (c .payload) in
-      ap₂ (λ (n : ℕ) (l : List ℕ). take n l) length-replied (answer-yes number _ _ none-refused ∙ put-fits ws 0 (c .room) (omega (arith, enough-room)))
-      ∙ take-at ws (drop (0 + length ws) (c .room)) (length (c .payload) + 2) (omega arith)
+  chunk-written sync = writer-left number (length (c .payload) + 2) (chunkOf sync (c .kind) (c .camera) (c .payload)) (c .room) (omega arith) enough-room z
 
 -- ---- a row of accepted calls
 

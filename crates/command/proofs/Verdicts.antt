@@ -1,21 +1,16 @@
--- What a verdict of 0 says of the causes that stand first, and so of the total; and the judgement on the causes that stand last.
+-- What a verdict of 0 on the causes that stand first says of the total; and the judgement on the causes that stand last.
 use mathlib.Core.Path.{_≡_, refl, ap, _∙_}
 use mathlib.Core.Bool.{Bool, true, false, cond, not, _&&_, and-eq-true-iff}
-use mathlib.Core.List.{List, [], _∷_, _++_}
+use mathlib.Core.List.{List}
 use Prim.Native.Nat.{ℕ, _≤_}
 use native.Mathlib.Omega.{arith}
 use lib.Dec.{leb, eqb}
 use borrow.Author.Tests.{leb-true, not-false}
-use Rattle.base.specs.Refusal.{Causes, verdict, wrongArgument, wrongLength}
+use Rattle.base.specs.Refusal.{verdict, wrongArgument, wrongLength}
 use Rattle.base.proofs.Refused.{spared}
 use Rattle.command_catalogue.specs.Rules.{askedWrong, judgeCauses}
 use Rattle.command.specs.declared.Fields.{Fields}
 use Rattle.command.specs.Asking.{mostBytes, firstCauses, lastCauses}
-
-pub verdict-front : (cs ds : Causes) → verdict (cs ++ ds) ≡ 0 → verdict cs ≡ 0
-verdict-front [] ds e = refl
-verdict-front ((n, true) ∷ cs) ds e = e
-verdict-front ((n, false) ∷ cs) ds e = verdict-front cs ds e
 
 -- ---- what the first causes leave
 

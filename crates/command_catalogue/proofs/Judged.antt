@@ -10,6 +10,7 @@ use lib.ListN.{length, getD, drop, drop-of-length-le}
 use lib.Seq.{drop-cons}
 use borrow.Author.Tests.{eq-eqb, ne-eqb}
 use Rattle.base.specs.Refusal.{verdict, wrongArgument, wrongType, wrongField, wrongFurther, wrongMode}
+use Rattle.base.proofs.Refused.{cause-by-parts}
 use Rattle.command_catalogue.specs.declared.table.Permits.{Permits}
 use Rattle.command_catalogue.specs.Table.{some, permits}
 use Rattle.command_catalogue.specs.Rules.{askedWrong, patchLengths, zeros, fieldsWrong, furtherWrong, causesOf, judgeCauses}
@@ -38,10 +39,6 @@ module _ (bs : List ℕ) (i : ℕ) {z : Bool} (inv : zeros (drop i bs) ≡ z) wh
 
   pub zeros-done : length bs ≤ i → true ≡ z
   zeros-done h = sym (ap zeros (drop-of-length-le bs h)) ∙ inv
-
--- one cause before others, by its parts
-pub cause-by-parts : {a b : Bool} {v w : ℕ} (n : ℕ) → a ≡ b → v ≡ w → cond a n v ≡ cond b n w
-cause-by-parts n p q = cc
 
 pub verdict-by-parts : (c m k q a d : ℕ) (xs : List ℕ) {p : Permits} {fw ww aw : Bool} {v₁ v₂ v₃ v₄ v : ℕ} → p ≡ permits c m k q → fw ≡ fieldsWrong p k a d (length xs)
     → ww ≡ furtherWrong c k d xs → v₁ ≡ cond (not (p .mode)) wrongMode 0 → v₂ ≡ cond ww wrongFurther v₁ → v₃ ≡ cond fw wrongField v₂

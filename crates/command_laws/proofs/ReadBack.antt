@@ -9,15 +9,14 @@ use native.Mathlib.Omega.{arith}
 use lib.Dec.{eqb, ltb}
 use lib.ListN.{length, getD, take, drop, length-append}
 use lib.Seq.{take-at, getD-append-add}
-use borrow.Author.Tests.{eq-eqb, ne-eqb, eqb-true, eqb-false, lt-ltb, le-ltb, ltb-true, ltb-false}
+use borrow.Author.Tests.{eq-eqb, ne-eqb, lt-ltb, le-ltb, ltb-true, ltb-false}
 use Rattle.base.specs.Refusal.{Causes, verdict, answer, wrongArgument, wrongHeader, wrongCrc, noRoom}
-use Rattle.base.proofs.Refused.{numbered, spared, verdict-kept, verdict-further, answer-no, answer-yes}
+use Rattle.base.proofs.Refused.{spared, verdict-front, verdict-then, answer-yes}
 use Rattle.crc.specs.Crc.{crcStart, crcBytes}
 use Rattle.command.specs.declared.Fields.{Fields}
 use Rattle.command.specs.Layout.{widths, headOf, laid, readOff, word, bytesOf, numberAt, bodyBytes, commandBytes, fieldsIn, furtherIn}
 use Rattle.command_catalogue.specs.Rules.{askedWrong}
 use Rattle.command.specs.Asking.{firstCauses, lastCauses}
-use Rattle.command.proofs.Verdicts.{verdict-front}
 use Rattle.command_reading.specs.Reading.{headerWrong, crcWrong, readCauses, command, given, readReply, furtherReply}
 use Rattle.command_writing.specs.Writing.{countWrong, askCauses, settled, writeReply}
 use Rattle.command_reading.proofs.Replies as reading
@@ -133,14 +132,6 @@ module _ (c m : ℕ) (f : Fields) (xs : List ℕ) where
 
 read-number : (c m : ℕ) (bs : List ℕ) → readReply c m bs .refusal ≡ verdict (readCauses c m bs)
 read-number c m bs = reading.reply-number c m bs refl
-
--- causes and one more: its number is given where they have none
-verdict-then : (cs : Causes) (n : ℕ) (b : Bool) → numbered cs ≡ true → verdict (cs ++ (n, b) ∷ []) ≡ answer (verdict cs) (λ v. v) (cond b n 0)
-verdict-then cs n b k = by (eqb (verdict cs) 0) refl
-  where
-    by : (t : Bool) → eqb (verdict cs) 0 ≡ t → verdict (cs ++ (n, b) ∷ []) ≡ answer (verdict cs) (λ v. v) (cond b n 0)
-    by true e = let z = eqb-true (verdict cs) 0 e in verdict-further cs ((n, b) ∷ []) k z ∙ sym (answer-yes _ _ _ z)
-    by false e = let h = eqb-false (verdict cs) 0 e in verdict-kept cs ((n, b) ∷ []) h ∙ sym (answer-no _ _ _ h)
 
 module _ (c m : ℕ) (f : Fields) (xs room : List ℕ) where
   write-number : writeReply c m f xs (length room) .refusal ≡ answer (verdict (askCauses c m f xs)) (λ v. v) (cond (ltb (length room) (14 + length xs)) noRoom 0)

@@ -10,12 +10,12 @@ use lib.ListN.{length, take, drop, take-append-drop, length-drop, drop-of-length
 use lib.Seq.{drop-drop, take-at, length-take-le}
 use borrow.Author.Tests.{eqb-true, not-false}
 use Rattle.base.specs.Refusal.{verdict}
-use Rattle.base.proofs.Refused.{Spared, spared, answer-yes}
+use Rattle.base.proofs.Refused.{Spared, spared, verdict-front, answer-yes}
 use Rattle.crc.specs.Crc.{crcStart, crcBytes}
 use Rattle.command.specs.Layout.{widths, headOf, laid, readOff, word, bytesOf, numberAt, bodyBytes, commandBytes, field, fieldsIn, furtherIn}
 use Rattle.command_catalogue.specs.Rules.{askedWrong}
 use Rattle.command.specs.Asking.{firstCauses}
-use Rattle.command.proofs.Verdicts.{verdict-front, total-within}
+use Rattle.command.proofs.Verdicts.{total-within}
 use Rattle.command.specs.declared.Fields.{Fields}
 use Rattle.command_reading.specs.declared.Command.{Command}
 use Rattle.command_reading.specs.Reading.{packetCauses, readCauses, given, readReply, furtherReply}

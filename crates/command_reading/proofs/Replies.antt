@@ -1,22 +1,20 @@
 -- The reader's reply on its two ways out: refused by the arguments or the total, or with the whole packet looked at.
 use mathlib.Core.Path.{_≡_, refl, sym, ap, _∙_}
-use mathlib.Core.Bool.{Bool, true, false, cond, not, _&&_}
+use mathlib.Core.Bool.{Bool, false, cond, not, _&&_}
 use mathlib.Core.List.{List, []}
 use Prim.Native.Nat.{ℕ, _-_, _/_, _≤_}
 use native.Mathlib.Omega.{arith}
 use lib.Dec.{eqb}
 use lib.ListN.{length, take, drop}
-use borrow.Author.Tests.{eqb-true}
-use Rattle.base.specs.Refusal.{Causes, verdict, answer, wrongHeader, wrongCrc}
-use Rattle.base.proofs.Refused.{verdict-kept, verdict-further, answer-no, answer-yes}
+use Rattle.base.specs.Refusal.{Causes, verdict, wrongHeader, wrongCrc}
+use Rattle.base.proofs.Refused.{verdict-front, cause-by-parts, verdict-kept, verdict-further, answer-no, answer-yes, answer-number}
 use Rattle.crc.specs.Crc.{crcStart, crcBytes}
-use Rattle.command_catalogue.proofs.Judged.{cause-by-parts}
 use Rattle.command.specs.declared.Fields.{Fields}
 use Rattle.command_reading.specs.declared.Command.{Command}
 use Rattle.command.specs.Layout.{packetId, word, numberAt, fieldsIn}
 use Rattle.command_catalogue.specs.Rules.{askedWrong, judgeCauses}
 use Rattle.command.specs.Asking.{firstCauses, lastCauses}
-use Rattle.command.proofs.Verdicts.{verdict-front, argument-right, total-within, judged-last}
+use Rattle.command.proofs.Verdicts.{argument-right, total-within, judged-last}
 use Rattle.command_reading.specs.Reading.{command, refused, headerWrong, crcWrong, packetCauses, readCauses, given, readReply, furtherReply}
 
 -- ---- what stands in a packet
@@ -45,12 +43,8 @@ unfolding given
 refused-alike v f g m n h = answer-no v _ _ h ∙ sym (answer-no v _ _ h)
 
 pub given-refusal : (v : ℕ) (f : Fields) (n : ℕ) → given v f n .refusal ≡ v
-unfolding given answer
-given-refusal v f n = by (eqb v 0) refl
-  where
-    by : (b : Bool) → eqb v 0 ≡ b → cond b (command 0 f n) (refused v) .refusal ≡ v
-    by true e = sym (eqb-true v 0 e)
-    by false e = refl
+unfolding given
+given-refusal v f n = answer-number (λ (r : Command). r .refusal) v refused (command 0 f n) refl (λ z. refl)
 
 module _ (c m : ℕ) (bs : List ℕ) where
   abbrev early : Causes

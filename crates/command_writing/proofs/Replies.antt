@@ -1,17 +1,17 @@
 -- The writer's reply on its three ways out, and the room: as it was on a refusal, else the head, the further bytes and the CRC end to end.
 use mathlib.Core.Path.{_≡_, refl, sym, ap, ap₂, _∙_}
-use mathlib.Core.Bool.{Bool, true, false, cond, _||_}
+use mathlib.Core.Bool.{Bool, false, cond, _||_}
 use mathlib.Core.List.{List, [], _∷_, _++_}
 use Prim.Native.Nat.{ℕ, _+_, _≤_, _<_}
 use native.Mathlib.Omega.{arith}
-use lib.Dec.{ltb, eqb}
+use lib.Dec.{ltb}
 use lib.ListN.{length, length-append}
-use borrow.Author.Tests.{ltb-true, ltb-false, eqb-true, not-false}
-use Rattle.base.specs.Refusal.{Causes, verdict, answer, noRoom}
+use borrow.Author.Tests.{ltb-true, ltb-false, not-false}
+use Rattle.base.specs.Refusal.{Causes, verdict, noRoom}
 use Rattle.base.specs.Number.{highByte, lowByte}
 use Rattle.base_room.specs.Room.{put}
 use Rattle.base.proofs.Booleans.{or-false}
-use Rattle.base.proofs.Refused.{Spared, spared, verdict-kept, verdict-further, answer-no, answer-yes}
+use Rattle.base.proofs.Refused.{Spared, spared, verdict-front, verdict-kept, verdict-further, answer-no, answer-yes, answer-number}
 use Rattle.base_room.proofs.RoomLaws.{put-put}
 use Rattle.crc.specs.Crc.{crcStart, crcBytes}
 use Rattle.crc.proofs.Laws.{crc-append}
@@ -20,7 +20,7 @@ use Rattle.command_writing.specs.declared.Sent.{Sent}
 use Rattle.command.specs.Layout.{widths, headOf, laid, word, bytesOf, commandBytes}
 use Rattle.command_catalogue.specs.Rules.{askedWrong, judgeCauses}
 use Rattle.command.specs.Asking.{firstCauses, lastCauses}
-use Rattle.command.proofs.Verdicts.{verdict-front, argument-right, total-within, judged-last}
+use Rattle.command.proofs.Verdicts.{argument-right, total-within, judged-last}
 use Rattle.command_writing.specs.Writing.{countWrong, writeCauses, sent, refused, settled, writeReply, writeRoom}
 
 -- a refused reply is the same whatever would have been written
@@ -29,12 +29,8 @@ unfolding settled
 refused-alike v m n h = answer-no v _ _ h ∙ sym (answer-no v _ _ h)
 
 settled-refusal : (v n : ℕ) → settled v n .refusal ≡ v
-unfolding settled answer
-settled-refusal v n = by (eqb v 0) refl
-  where
-    by : (b : Bool) → eqb v 0 ≡ b → cond b (sent 0 n) (refused v) .refusal ≡ v
-    by true e = sym (eqb-true v 0 e)
-    by false e = refl
+unfolding settled
+settled-refusal v n = answer-number (λ (r : Sent). r .refusal) v refused (sent 0 n) refl (λ z. refl)
 
 -- ---- the reply
 

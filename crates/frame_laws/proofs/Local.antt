@@ -11,7 +11,7 @@ use lib.ListN.{length, getD, take, drop, length-take, length-drop, take-append-d
 use lib.Seq.{take-add, take-append-le, drop-append-le, drop-drop}
 use lib.Dec.{leb, eqb}
 use borrow.Author.Tests.{not-false, eq-eqb, ne-eqb, eqb-true, le-leb, lt-ltb}
-use Rattle.base.proofs.Booleans.{and-left, and-right, or-false}
+use Rattle.base.proofs.Booleans.{and-left, and-right, or-false, and-both}
 use Rattle.chunk.specs.declared.Entry.{Entry}
 use Rattle.chunk.specs.Header.{size, span, legal, headed, confirmed}
 use Rattle.chunk.specs.Reading.{entry, reading, listedWords, leftAt, listedAt}
@@ -19,7 +19,6 @@ use Rattle.chunk.proofs.Headers.{headed-parts, confirmed-within}
 use Rattle.chunk_laws.specs.Stretch.{Laid, words, whole, wholeRow}
 use Rattle.chunk_laws.specs.Outside.{within, covered}
 use Rattle.chunk_laws.specs.Listed.{Among}
-use Rattle.chunk_laws.proofs.Tests.{and-both}
 use Rattle.chunk_laws.proofs.ByPlace.{listed-place}
 use Rattle.chunk_laws.proofs.Rows.{entries, lists-row}
 use Rattle.parity_units.specs.Split.{unitsIn}

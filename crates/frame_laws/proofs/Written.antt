@@ -10,7 +10,7 @@ use lib.ListN.{length, take, drop, length-append, List·getD-append}
 use lib.Seq.{take-all, take-at, drop-at, take-append-le, drop-drop}
 use lib.Dec.{eqb, leb, ltb}
 use borrow.Author.Tests.{eq-eqb, ne-eqb, eqb-true, leb-true, le-leb, le-ltb}
-use Rattle.base.proofs.Booleans.{and-left, and-right}
+use Rattle.base.proofs.Booleans.{and-left, and-right, and-both}
 use Rattle.base.specs.Refusal.{verdict}
 use Rattle.base_room.specs.Room.{put}
 use Rattle.base.specs.Limit.{recordingLimit, tooLong}
@@ -22,7 +22,6 @@ use Rattle.chunk_writing.specs.Writing as writes
 use Rattle.chunk_writing.specs.Writing.{headerWord}
 use Rattle.chunk_laws.specs.Stretch.{Laid, words, offset, whole, wholeRow}
 use Rattle.chunk_laws.specs.Written.{WriterCall, reply, Accepted}
-use Rattle.chunk_laws.proofs.Tests.{and-both}
 use Rattle.chunk_laws.proofs.Rows.{entries, whole-length, row-first, row-rest, row-confirmed, row-drop, lists-row, words-parts, row-at, row-listed, payload-there}
 use Rattle.chunk_laws.proofs.Written.{accepted, laidOut, kind-written, camera-written, size-written, written-whole, laid, accepted-taken, recorded-words}
 use Rattle.parity_laws.specs.Units.{Hold}

@@ -7,13 +7,13 @@ use native.Mathlib.Omega.{arith}
 use lib.ListN.{length, take, drop, getD, length-drop}
 use lib.Seq.{getD-drop}
 use lib.Dec.{ltb, eqb}
-use borrow.Author.Tests.{not-false, eqb-true, lt-ltb, le-ltb, ltb-false}
+use borrow.Author.Tests.{not-false, lt-ltb, le-ltb, ltb-false}
 use Rattle.base.proofs.Booleans.{and-left, and-right}
 use Rattle.base_room.proofs.RoomLaws.{to-end}
 use Rattle.base.specs.Refusal.{Causes, verdict, answer, wrongLength, nothingThere, frameCut, wrongParity, noRoom}
 use Rattle.base.specs.Limit.{tooLong}
 use Rattle.base_room.specs.Room.{put}
-use Rattle.base.proofs.Refused.{numbered, spared, answer-no, answer-yes, verdict-kept, verdict-further}
+use Rattle.base.proofs.Refused.{numbered, spared, answer-no, answer-yes, answer-number, verdict-kept, verdict-further}
 use Rattle.base.specs.declared.Words.{Words}
 use Rattle.chunk.specs.Header.{confirmed}
 use Rattle.chunk.specs.Reading.{entry, leftAt, listedAt}
@@ -105,17 +105,10 @@ module _ (sync p : ℕ) (ws : List ℕ) where
       ap refused e ∙ sym (answer-no (verdict (atCauses sync ws p)) refused (told (described sync here)) (λ z. h (e ∙ z)))
 
   -- the number in a reply, and the reply where it is 0
-  refusal-of-answer : (v : ℕ) → answer v refused (told (described sync here)) .refusal ≡ v
-  unfolding answer described
-  refusal-of-answer v = by-test (eqb v 0) refl
-    where
-      by-test : (b : Bool) → eqb v 0 ≡ b → cond b (told (described sync here)) (refused v) .refusal ≡ v
-      by-test true e = sym (eqb-true v 0 e)
-      by-test false e = refl
-
   module _ (cs : Causes) (r : Frame) (e : r ≡ answer (verdict cs) refused (told (described sync here))) where
     refusal-in-reply : r .refusal ≡ verdict cs
-    refusal-in-reply = ap (λ (f : Frame). f .refusal) e ∙ refusal-of-answer (verdict cs)
+    unfolding described
+    refusal-in-reply = ap (λ (f : Frame). f .refusal) e ∙ answer-number (λ (f : Frame). f .refusal) (verdict cs) refused (told (described sync here)) refl (λ z. refl)
 
     -- a refusal stands, whatever further causes there are
     refusal-kept : (ds : Causes) → (r .refusal ≡ 0 → ⊥) → r ≡ answer (verdict (cs ++ ds)) refused (told (described sync here))

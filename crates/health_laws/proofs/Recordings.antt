@@ -9,13 +9,12 @@ use lib.ListN.{length, take, drop, length-append, take-append-drop}
 use lib.Seq.{take-at, drop-at, drop-drop, take-append-seam}
 use lib.Dec.{eqb}
 use borrow.Author.Tests.{eq-eqb, ne-eqb, eqb-true, eqb-false, not-true}
-use Rattle.base.proofs.Booleans.{and-left, and-right}
+use Rattle.base.proofs.Booleans.{and-left, and-right, and-both, by-test}
 use Rattle.chunk.specs.declared.Entry.{Entry}
 use Rattle.chunk.specs.Header.{kind, size, span}
 use Rattle.chunk.specs.Reading.{entry}
 use Rattle.chunk_laws.specs.Stretch.{Laid, words, offset, whole, wholeRow}
 use Rattle.chunk_laws.specs.Written.{Accepted, recorded}
-use Rattle.chunk_laws.proofs.Tests.{and-both, by-test}
 use Rattle.chunk_laws.proofs.Rows.{entries, whole-length, row-first, row-rest, row-drop, lists-row}
 use Rattle.chunk_laws.proofs.Written.{laid, kind-written, accepted-taken, row-whole, recorded-words}
 use Rattle.health.specs.Packet.{packetType}

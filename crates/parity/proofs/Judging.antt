@@ -5,12 +5,12 @@ use mathlib.Core.List.{List, [], _∷_}
 use mathlib.Core.Logic.{_⊎_, inl, inr}
 use Prim.Native.Nat.{ℕ, _-_, _<_, _≤_}
 use native.Mathlib.Omega.{arith}
-use lib.Dec.{leb, ltb, eqb}
+use lib.Dec.{leb, ltb}
 use lib.Count.{ones, leadingZeros}
 use lib.ListN.{length, drop}
-use borrow.Author.Tests.{leb-true, leb-false, lt-leb, le-ltb, lt-ltb, eqb-true}
+use borrow.Author.Tests.{leb-true, leb-false, lt-leb, le-ltb, lt-ltb}
 use Rattle.base.specs.Xor.{_⊕_}
-use Rattle.base.proofs.Refused.{spared, verdict-kept, verdict-further, answer-no, answer-yes}
+use Rattle.base.proofs.Refused.{spared, verdict-kept, verdict-further, answer-no, answer-yes, answer-number}
 use Rattle.base.specs.Refusal.{Causes, answer, wrongLength, wrongParity, noRoom}
 use Rattle.parity_rows.specs.declared.Sums.{Sums}
 use Rattle.parity_rows.specs.Parity.{parities, statedParity}
@@ -83,12 +83,7 @@ module _ (k : ℕ) where
   named-length neither e = absurd (false≢true (sym e))
 
 number-in : (v : ℕ) (f : Finding) (k : ℕ) → (v ≡ 0 → isNeither f ≡ false) → answer v refused (named f k) .refusal ≡ v
-unfolding answer
-number-in v f k h = by-test (eqb v 0) refl
-  where
-    by-test : (b : Bool) → eqb v 0 ≡ b → cond b (named f k) (refused v) .refusal ≡ v
-    by-test true e = let z = eqb-true v 0 e in named-refusal k f (h z) ∙ sym z
-    by-test false e = refl
+number-in v f k h = answer-number (λ (j : Judged). j .refusal) v refused (named f k) refl (λ z. named-refusal k f (h z))
 
 pub judge-finds : (u : List ℕ) → judgeVerdict u ≡ 0 → isNeither (finding u) ≡ false
 unfolding judgeVerdict

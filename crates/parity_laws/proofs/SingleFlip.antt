@@ -8,14 +8,13 @@ use Prim.Native.Nat.{ℕ, _+_, _-_, _*_, _/_, _%_, _^_, _<_, _≤_}
 use native.Mathlib.Omega.{arith}
 use lib.Dec.{ltb}
 use lib.Bits.{xor-zero-l, xor-zero-r, xor-self}
-use lib.ListN.{length, getD, set, take, drop, length-set}
+use lib.ListN.{length, getD, set, drop, length-set}
 use lib.Seq.{drop-set-lt, drop-set-add, getD-drop, getD-set-same, set-set, set-getD}
 use borrow.Author.Tests.{le-leb, lt-ltb, ltb-true, ltb-false}
 use Rattle.base.specs.Xor.{_⊕_}
 use Rattle.base.specs.Size.{dataWidth}
 use Rattle.base_room.specs.Room.{put}
 use Rattle.base.proofs.XorLaws.{xor-assoc}
-use Rattle.base.specs.Refusal.{settled}
 use Rattle.base.proofs.Refused.{spared, answer-yes, settled-refusal}
 use Rattle.base_room.proofs.RoomLaws.{writer-left}
 use Rattle.parity.specs.declared.Judged.{Judged}
@@ -249,10 +248,7 @@ module _ (d room : List ℕ) (a : Accepted d room) where
 
   unit-written : written d room ≡ unitOf d
   unfolding writeReply writeRoom
-  unit-written =
-      let u = unitOf d in
-      ap (λ (n : ℕ). take (settled verdictThere n .length .0) (writeRoom d room)) (sym (unit-length d))
-      ∙ writer-left verdictThere u room (omega (arith, unit-fits, unit-length d)) (settled-refusal verdictThere (length u) ∙ no-cause)
+  unit-written = writer-left verdictThere (8 + length d) (unitOf d) room (unit-length d) unit-fits a
 
   whole-there : Repaired (written d room) d 0 0 0
   whole-there = rw unit-written (written-repaired d data-fit)

@@ -1,7 +1,7 @@
 -- A payload unit by unit: from a place where a unit begins, the first unit and those from its end on are the units from that place on. How many data words
 -- there are follows from the length alone.
 use mathlib.Core.Path.{_≡_, refl, sym, ap, ap₂, _∙_}
-use mathlib.Core.Bool.{Bool, true, false, cond, _||_, false≢true}
+use mathlib.Core.Bool.{Bool, true, false, cond, _||_, false≢true, or-assoc}
 use mathlib.Core.List.{List, [], _∷_, _++_, append-assoc}
 use mathlib.Core.Logic.{_⊎_, inl, inr}
 use Prim.Native.Nat.{ℕ, zero, suc, _+_, _-_, _*_, _/_, _%_, _≤_, _<_, min}
@@ -11,7 +11,7 @@ use lib.ListN.{length, take, drop, length-take, length-drop, length-set, length-
 use lib.Seq.{take-all, drop-drop}
 use lib.Dec.{leb, eqb}
 use borrow.Author.Tests.{leb-true, leb-false, le-leb, eqb-true, eqb-false}
-use Rattle.base.proofs.Booleans.{or-false, or-assoc}
+use Rattle.base.proofs.Booleans.{or-false}
 use Rattle.base.proofs.Refused.{answer-yes, answer-no}
 use Rattle.base.specs.Refusal.{wrongParity}
 use Rattle.parity.specs.Unit.{Finding, sound, parityBit, dataBit, neither, finding, flipped, repaired, unitData, isNeither, judgeVerdict}

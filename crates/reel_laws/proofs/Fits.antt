@@ -10,11 +10,10 @@ use lib.Dec.{leb, eqb}
 use borrow.Author.Tests.{eqb-true, eqb-false, leb-true, le-ltb, not-false}
 use Rattle.base.proofs.Booleans.{and-left, and-right}
 use Rattle.base.specs.Limit.{reelLimit}
-use Rattle.base.specs.Refusal.{wrongReel, noRoom, verdict, answer, settled}
-use Rattle.base_room.specs.Room.{put}
+use Rattle.base.specs.Refusal.{wrongReel, noRoom, verdict}
 use Rattle.base.specs.declared.Written.{Written}
-use Rattle.base.proofs.Refused.{spared, answer-yes, settled-refusal}
-use Rattle.base_room.proofs.RoomLaws.{put-fits}
+use Rattle.base.proofs.Refused.{spared, answer-yes, answer-number, settled-refusal}
+use Rattle.base_room.proofs.RoomLaws.{writer-left}
 use Rattle.chunk.specs.declared.Entry.{Entry}
 use Rattle.chunk.specs.Reading.{entry, reading}
 use Rattle.reel.specs.declared.Reel.{Reel}
@@ -24,8 +23,8 @@ use Rattle.reel.proofs.Same.{same-true, same-refl}
 use Rattle.reel.proofs.OnReel.{index-length, two-words}
 use Rattle.reel.proofs.Fewest.{few-chunks}
 use Rattle.reel.proofs.Reading.{agrees-length, accepted-read, not-accepted-refused, trailer-not-accepted}
-use Rattle.reel_writing.specs.Writing.{reelLength, writeCauses, writeReply}
-use Rattle.reel_writing.proofs.Writing.{room-compared, accepted-short, accepted-fits, accepted-written}
+use Rattle.reel_writing.specs.Writing.{reelLength, writeCauses, writeReply, writeRoom}
+use Rattle.reel_writing.proofs.Writing.{room-compared, accepted-short, accepted-fits}
 use Rattle.reel_laws.specs.Fits.{written, writtenTail, WrittenIsAccepted, RecordingComesBack, AcceptedIsWritten, OldIndexIsRefused}
 use Rattle.reel_laws.proofs.Tail.{tailed, tailed-length, tailed-count, tailed-n, other-length-disagrees, own-accepted}
 
@@ -49,18 +48,11 @@ module _ (sync : ℕ) (ws room : List ℕ) (z : writeReply sync ws (length room)
   short : length ws ≤ reelLimit
   short = accepted-short sync ws room (writeReply sync ws (length room)) refl z
 
-  length-replied : writeReply sync ws (length room) .length .0 ≡ reelLength sync ws
-  unfolding writeReply settled
-  length-replied = ap (λ (x : Written). x .length .0) (answer-yes _ _ _ (sym (settled-refusal (verdict (writeCauses sync ws (length room))) (reelLength sync ws)) ∙ z))
-
   written-is-reel : written sync ws room ≡ reelOf sync ws
-  unfolding reelOf
+  unfolding reelOf writeReply writeRoom
   written-is-reel =
-      let r : List ℕ = reelOf sync ws in
-      let l : length r ≡ reelLength sync ws = tailed-length ws (length ws) (reading sync ws) in
-      let fits = accepted-fits sync ws room (writeReply sync ws (length room)) refl z in
-      ap₂ take length-replied (sym (accepted-written sync ws room (writeReply sync ws (length room)) refl z (put r 0 room) refl) ∙ put-fits r 0 room (omega arith))
-      ∙ take-at r (drop (0 + length r) room) (reelLength sync ws) l
+      writer-left (verdict (writeCauses sync ws (length room))) (reelLength sync ws) (reelOf sync ws) room (tailed-length ws (length ws) (reading sync ws))
+      (accepted-fits sync ws room (writeReply sync ws (length room)) refl z) z
 
   tail-is-tail : writtenTail sync ws room ≡ tailWords (length ws) (reading sync ws)
   unfolding reelOf
@@ -142,15 +134,8 @@ module _ (sync : ℕ) (r : List ℕ) (a : accepted sync r ≡ true) where
 
 -- the number in the reader's reply
 read-number : (sync : ℕ) (r : List ℕ) → readReply sync r .refusal ≡ verdict (readCauses sync r)
-unfolding readReply answer
-read-number sync r = by-verdict (verdict (readCauses sync r))
-  where
-    by-verdict : (v : ℕ) → answer v refused (told 0 (nOf r) (countOf r)) .refusal ≡ v
-    by-verdict v = by-test (eqb v 0) refl
-      where
-        by-test : (b : Bool) → eqb v 0 ≡ b → cond b (told 0 (nOf r) (countOf r)) (refused v) .refusal ≡ v
-        by-test true e = sym (eqb-true v 0 e)
-        by-test false e = refl
+unfolding readReply
+read-number sync r = answer-number (λ (x : Reel). x .refusal) _ refused (told 0 (nOf r) (countOf r)) refl (λ z. refl)
 
 pub accepted-is-written : AcceptedIsWritten
 unfolding readReply

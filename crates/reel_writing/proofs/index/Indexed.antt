@@ -1,22 +1,18 @@
 -- The loop that writes the index: the entries of the rest of the chunks, put into the room as it is, give the whole answer.
 use mathlib.Core.Path.{_≡_, refl, sym, ap, _∙_}
-use mathlib.Core.List.{List, [], _++_, append-nil}
+use mathlib.Core.List.{List}
 use Prim.Native.Nat.{ℕ, suc, _+_, _*_, _≤_}
 use native.Mathlib.Nat.{add-zero}
 use native.Mathlib.Omega.{arith}
-use lib.ListN.{length, take, drop, take-append-drop}
+use lib.ListN.{length}
 use Rattle.base_room.specs.Room.{put}
-use Rattle.base_room.proofs.RoomLaws.{put-fits, put-put, put-length}
+use Rattle.base_room.proofs.RoomLaws.{put-put, put-length}
+use Rattle.base_room.proofs.Filling.{put-nothing}
 use Rattle.chunk.specs.declared.Entry.{Entry}
 use Rattle.chunk.specs.Reading.{reading}
 use Rattle.chunk.proofs.Steps.{Next, Last}
 use Rattle.reel.specs.Layout.{entryWidth, entryWords, indexWords}
 use Rattle.reel.proofs.OnReel.{index-length, listedFrom}
-
-put-none-left : (at : ℕ) (d : List ℕ) → at ≤ length d → put [] at d ≡ d
-put-none-left at d h =
-    put-fits [] at d (omega arith) ∙ ap (λ (l : List ℕ). l ++ drop (at + 0) d) (append-nil (take at d))
-    ∙ ap (λ (n : ℕ). take at d ++ drop n d) (add-zero at) ∙ take-append-drop at d
 
 pub record Indexed (sync : ℕ) (ws room₀ room : List ℕ) (from count : ℕ) : Type 0 where
   pub long : length room ≡ length room₀
@@ -56,7 +52,7 @@ module _ (sync : ℕ) (ws room₀ : List ℕ) where
     all-indexed n =
         let l : length (listedFrom sync ws from) ≡ 0 = ap length (n .lists) in (
           omega (arith, k .counts),
-          sym (put-none-left (length ws + entryWidth * count) room (omega (arith, k .fits, k .long)))
+          sym (put-nothing (length ws + entryWidth * count) room (omega (arith, k .fits, k .long)))
               ∙ sym (ap (λ (m : List Entry). put (indexWords m) (length ws + entryWidth * count) room) (n .lists))
               ∙ k .written,
         )
