@@ -1,5 +1,6 @@
 // The observations of a camera in a health packet: types 4, 5 and 6 for cameras 1, 2 and 3. A packet of another type is refused by 7.
 use base::Words;
+use base::number;
 use health::packet;
 ghost use mathlib.Core.Path.{_≡_};
 ghost use Prim.Native.Nat.{_≤_};
@@ -112,9 +113,9 @@ fn observation_fields(packet: &[u16]) -> Observed
         crc: base_room::word_at(packet, Words(1)),
         time: base_room::word_at(packet, Words(2)),
         frame: base_room::word_at(packet, Words(3)),
-        period: times / 256,
-        exposure: times % 256,
-        mode: mode_of(mode_word / 256),
+        period: number::high_byte(times) as u16,
+        exposure: number::low_byte(times) as u16,
+        mode: mode_of(number::high_byte(mode_word) as u16),
         mode_word,
         rice_en: flags / 32768 % 2 == 1,
         rice_dt: flags / 16384 % 2 == 1,

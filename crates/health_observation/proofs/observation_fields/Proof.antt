@@ -1,8 +1,10 @@
 -- `health_observation::observation_fields` meets its contract: the record of the words that were read.
-use mathlib.Core.Path.{refl}
+use mathlib.Core.Path.{refl, ap, _∙_}
 use native.Mathlib.Omega.{arith}
 use borrow.Author.Needs.{needs}
+use Rattle.base.specs.Number.{highByte, lowByte}
 use Rattle.health.proofs.Parts.{fills, fills-part}
+use Rattle.health_observation.specs.Observation.{modeOf}
 use Rattle.health_observation.proofs.Recorded.{words-make-observation}
 use Rattle.health_observation.proofs.observation_fields.Statement.{statement}
 use Rattle.health_observation.proofs.observation_fields.Tie as tie
@@ -10,7 +12,9 @@ use Rattle.health_observation.proofs.observation_fields.Tie as tie
 returns : tie.Need-returns
 returns c =
     let mode = c .before in
-    let frame = mode .before in
+    let exposure = mode .before .before in
+    let period = exposure .before in
+    let frame = period .before in
     let time = frame .before in
     let crc = time .before in
     let type-word = crc .before in
@@ -22,8 +26,8 @@ returns c =
     let p = times .before .before .args .packet .now in
     words-make-observation p
     (type-word .word-at4 .ensures) (crc .word-at5 .ensures) (time .word-at6 .ensures) (frame .word-at7 .ensures)
-    (omega (arith, times .word-at .ensures)) (omega (arith, times .word-at .ensures)) (word .word-at2 .ensures) (flags .word-at3 .ensures) (c .word-at8 .ensures)
-    (mode .mode-of .ensures) (fills-part 8 8 p _ (omega arith) refl (others .put-words .ensures)) (fills 16 p _ (omega arith) (bins .put-words2 .ensures))
+    (period .high-byte .ensures ∙ ap highByte (times .word-at .ensures)) (exposure .low-byte .ensures ∙ ap lowByte (times .word-at .ensures)) (word .word-at2 .ensures)
+    (flags .word-at3 .ensures) (c .word-at8 .ensures) (mode .mode-of .ensures ∙ ap modeOf (mode .before .high-byte2 .ensures)) (fills-part 8 8 p _ (omega arith) refl (others .put-words .ensures)) (fills 16 p _ (omega arith) (bins .put-words2 .ensures))
 
 pub observation-fields-spec : {M : Type 1} → statement M
 observation-fields-spec =
@@ -47,6 +51,12 @@ observation-fields-spec =
     (λ c κs. search needs)
     (λ c κs. search needs)
     (λ c κs. search needs)
+    (λ c κs. search needs)
+    (λ c. search needs)
+    (λ c κs. search needs)
+    (λ c. search needs)
+    (λ c κs. search needs)
+    (λ c. search needs)
     (λ c κs. search needs)
     (λ c κs. search needs)
     returns)
