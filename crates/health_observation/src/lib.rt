@@ -5,6 +5,7 @@ use health::packet;
 ghost use mathlib.Core.Path.{_≡_};
 ghost use Prim.Native.Nat.{_≤_};
 ghost use lib.ListN.{length, getD};
+ghost use Rattle.base.specs.Number.{bitSet};
 ghost use Rattle.base.specs.Size.{packetWidth};
 ghost use Rattle.base.specs.Refusal.{verdict};
 ghost use Rattle.health_observation.specs.Observation.{modeOf, isObservation, observationCauses, refused, observationOf, observationReply};
@@ -49,6 +50,14 @@ fn mode_of(byte: u16) -> Mode
         3 => Mode::NoAcquisition,
         _ => Mode::Disabled,
     }
+}
+
+// Whether a bit of a word is 1; bit 15 is the most significant.
+fn flag(word: u16, bit: u16) -> bool
+    requires { ⌜ bit ≤ 15 ⌝ }
+    ensures { λ r. ⌜ r ≡ bitSet word bit ⌝ }
+{
+    (word >> bit) % 2 == 1
 }
 
 // By the type and words 6 and 7.
@@ -117,11 +126,11 @@ fn observation_fields(packet: &[u16]) -> Observed
         exposure: number::low_byte(times) as u16,
         mode: mode_of(number::high_byte(mode_word) as u16),
         mode_word,
-        rice_en: flags / 32768 % 2 == 1,
-        rice_dt: flags / 16384 % 2 == 1,
-        flat_en: flags / 8192 % 2 == 1,
-        ff_led_en: flags / 4096 % 2 == 1,
-        st_asap: flags / 2048 % 2 == 1,
+        rice_en: flag(flags, 15),
+        rice_dt: flag(flags, 14),
+        flat_en: flag(flags, 13),
+        ff_led_en: flag(flags, 12),
+        st_asap: flag(flags, 11),
         region: base_room::word_at(packet, Words(7)) / 4096,
         others,
         bins,
