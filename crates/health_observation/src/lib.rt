@@ -5,7 +5,7 @@ use health::packet;
 ghost use mathlib.Core.Path.{_≡_};
 ghost use Prim.Native.Nat.{_≤_};
 ghost use lib.ListN.{length, getD};
-ghost use Rattle.base.specs.Number.{bitSet};
+ghost use Rattle.base.specs.Number.{highByte, lowByte, bitSet};
 ghost use Rattle.base.specs.Size.{packetWidth};
 ghost use Rattle.base.specs.Refusal.{verdict};
 ghost use Rattle.health_observation.specs.Observation.{modeOf, isObservation, observationCauses, refused, observationOf, observationReply};
@@ -50,6 +50,19 @@ fn mode_of(byte: u16) -> Mode
         3 => Mode::NoAcquisition,
         _ => Mode::Disabled,
     }
+}
+
+// A byte of a word, as a number of a word's width.
+fn high(word: u16) -> u16
+    ensures { λ r. ⌜ r ≡ highByte word ⌝ }
+{
+    number::high_byte(word) as u16
+}
+
+fn low(word: u16) -> u16
+    ensures { λ r. ⌜ r ≡ lowByte word ⌝ }
+{
+    number::low_byte(word) as u16
 }
 
 // Whether a bit of a word is 1; bit 15 is the most significant.
@@ -122,9 +135,9 @@ fn observation_fields(packet: &[u16]) -> Observed
         crc: base_room::word_at(packet, Words(1)),
         time: base_room::word_at(packet, Words(2)),
         frame: base_room::word_at(packet, Words(3)),
-        period: number::high_byte(times) as u16,
-        exposure: number::low_byte(times) as u16,
-        mode: mode_of(number::high_byte(mode_word) as u16),
+        period: high(times),
+        exposure: low(times),
+        mode: mode_of(high(mode_word)),
         mode_word,
         rice_en: flag(flags, 15),
         rice_dt: flag(flags, 14),

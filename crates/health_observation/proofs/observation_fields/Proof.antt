@@ -33,8 +33,8 @@ returns c =
     let long = start .pre .0 in
     words-make-observation p
     (type-word .word-at4 .ensures) (crc .word-at5 .ensures) (time .word-at6 .ensures) (frame .word-at7 .ensures)
-    (period .high-byte .ensures ∙ ap highByte (times .word-at .ensures)) (exposure .low-byte .ensures ∙ ap lowByte (times .word-at .ensures)) (word .word-at2 .ensures)
-    (flags .word-at3 .ensures) (c .word-at8 .ensures) (mode .mode-of .ensures ∙ ap modeOf (mode .before .high-byte2 .ensures))
+    (period .high .ensures ∙ ap highByte (times .word-at .ensures)) (exposure .low .ensures ∙ ap lowByte (times .word-at .ensures)) (word .word-at2 .ensures)
+    (flags .word-at3 .ensures) (c .word-at8 .ensures) (mode .mode-of .ensures ∙ ap modeOf (mode .before .high2 .ensures))
     (rice-en .flag .ensures) (rice-dt .flag2 .ensures) (flat-en .flag3 .ensures) (ff-led-en .flag4 .ensures) (st-asap .flag5 .ensures)
     (fills-part 8 8 p _ (omega (arith, long)) refl (others .put-words .ensures)) (fills 16 p _ (omega (arith, long)) (bins .put-words2 .ensures))
 
@@ -61,11 +61,8 @@ observation-fields-spec =
     (λ c κs. search needs)
     (λ c κs. search needs)
     (λ c κs. search needs)
-    (λ c. search needs)
     (λ c κs. search needs)
-    (λ c. search needs)
     (λ c κs. search needs)
-    (λ c. search needs)
     (λ c κs. search needs)
     (λ c κs. search needs)
     (λ c κs. search needs)
