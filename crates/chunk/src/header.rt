@@ -56,19 +56,20 @@ fn legal_word(header: u16) -> bool
 }
 
 // Whether a legal header stands at a place: the sync word is looked at first.
-fn headed_at(words: &[u16], sync: u16, at: usize) -> bool
-    ensures { λ r. ⌜ r ≡ headed sync (drop at (now (words .entry))) ⌝ }
+fn headed_at(words: &[u16], sync: u16, at: Words) -> bool
+    ensures { λ r. ⌜ r ≡ headed sync (drop (at .0) (now (words .entry))) ⌝ }
 {
+    let place = at.0;
     if words.len() < HEADER.0 {
         return false;
     }
-    if words.len() - HEADER.0 < at {
+    if words.len() - HEADER.0 < place {
         return false;
     }
-    if words[at] != sync {
+    if words[place] != sync {
         return false;
     }
-    legal_word(words[at + 1])
+    legal_word(words[place + 1])
 }
 
 // What stands at a place: a chunk is confirmed by a legal header whose end is the recording's or has a legal header itself.
@@ -76,7 +77,7 @@ pub fn check(words: &[u16], sync: u16, at: Words) -> Check
     ensures { λ r. ⌜ r ≡ checkOf (confirmed sync (drop (at .0) (now (words .entry)))) ⌝ }
 {
     let place = at.0;
-    if !headed_at(words, sync, place) {
+    if !headed_at(words, sync, at) {
         return Check::NotAChunk;
     }
     let size = size_of(words[place + 1]);
@@ -84,7 +85,7 @@ pub fn check(words: &[u16], sync: u16, at: Words) -> Check
     if end == words.len() {
         return Check::Confirmed;
     }
-    if headed_at(words, sync, end) {
+    if headed_at(words, sync, Words(end)) {
         return Check::Confirmed;
     }
     Check::NotAChunk

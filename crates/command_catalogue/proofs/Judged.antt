@@ -12,17 +12,17 @@ use borrow.Author.Tests.{eq-eqb, ne-eqb}
 use Rattle.base.specs.Refusal.{verdict, wrongArgument, wrongType, wrongField, wrongFurther, wrongMode}
 use Rattle.base.proofs.Refused.{cause-by-parts}
 use Rattle.command_catalogue.specs.declared.table.Permits.{Permits}
-use Rattle.command_catalogue.specs.Table.{some, permits}
+use Rattle.command_catalogue.specs.Table.{anyOf, permits}
 use Rattle.command_catalogue.specs.Rules.{askedWrong, patchLengths, zeros, fieldsWrong, furtherWrong, causesOf, judgeCauses}
 
 pub patch-lengths : (c n : ℕ)
     → cond (eqb c 1) (eqb n 8 || eqb n 16 || eqb n 32 || eqb n 64 || eqb n 128 || eqb n 196) (eqb n 8 || eqb n 16 || eqb n 32 || eqb n 38)
-    ≡ some (eqb n) (patchLengths c)
+    ≡ anyOf (eqb n) (patchLengths c)
 patch-lengths c n = by (eqb c 1)
   where
     by : (b : Bool)
         → cond b (eqb n 8 || eqb n 16 || eqb n 32 || eqb n 64 || eqb n 128 || eqb n 196) (eqb n 8 || eqb n 16 || eqb n 32 || eqb n 38)
-        ≡ some (eqb n) (cond b (8 ∷ 16 ∷ 32 ∷ 64 ∷ 128 ∷ 196 ∷ []) (8 ∷ 16 ∷ 32 ∷ 38 ∷ []))
+        ≡ anyOf (eqb n) (cond b (8 ∷ 16 ∷ 32 ∷ 64 ∷ 128 ∷ 196 ∷ []) (8 ∷ 16 ∷ 32 ∷ 38 ∷ []))
     by true = simp (or-assoc, or-false)
     by false = simp (or-assoc, or-false)
 

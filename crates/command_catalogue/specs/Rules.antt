@@ -6,7 +6,7 @@ use lib.ListN.{length, drop}
 use lib.Dec.{leb, eqb}
 use Rattle.base.specs.Refusal.{Causes, wrongArgument, wrongType, wrongField, wrongFurther, wrongMode}
 use Rattle.command_catalogue.specs.declared.table.Permits.{Permits}
-use Rattle.command_catalogue.specs.Table.{dcixs, c1xs, operating, patch, some, permits}
+use Rattle.command_catalogue.specs.Table.{dcixs, c1xs, operating, patch, anyOf, permits}
 
 -- A catalogue or a mode is asked for that is none: there are the catalogues 1 and 2, and the modes 0, 1 and 2.
 abbrev pub askedWrong : ℕ → ℕ → Bool
@@ -29,7 +29,7 @@ fieldsWrong p t address data' n =
 -- Further data not permitted: a PATCH has a number of its list, and zeros after its actual length; others have none.
 abbrev pub furtherWrong : ℕ → ℕ → ℕ → List ℕ → Bool
 furtherWrong catalogue t data' xs =
-    cond (eqb t patch) (not (some (eqb (length xs)) (patchLengths catalogue)) || not (zeros (drop data' xs))) (not (eqb (length xs) 0))
+    cond (eqb t patch) (not (anyOf (eqb (length xs)) (patchLengths catalogue)) || not (zeros (drop data' xs))) (not (eqb (length xs) 0))
 
 abbrev pub causesOf : Permits → ℕ → ℕ → ℕ → ℕ → List ℕ → Causes
 causesOf p catalogue t address data' xs =

@@ -81,9 +81,9 @@ table =
 -- ---- what it says
 
 -- some element of the list passes the test
-abbrev pub some : {A : Type 0} → (A → Bool) → List A → Bool
-some test [] = false
-some test (x ∷ xs) = test x || some test xs
+abbrev pub anyOf : {A : Type 0} → (A → Bool) → List A → Bool
+anyOf test [] = false
+anyOf test (x ∷ xs) = test x || anyOf test xs
 
 abbrev pub isType : ℕ → ℕ → Listed → Bool
 isType catalogue t (both k) = eqb t k
@@ -94,12 +94,12 @@ inRange q (just k) = eqb q k
 inRange q (least to most) = leb least q && leb q most
 
 abbrev pub isQualifier : ℕ → ℕ → Qualifiers → Bool
-isQualifier catalogue q (alike ranges) = some (inRange q) ranges
-isQualifier catalogue q (first cat2 second) = cond (eqb catalogue dcixs) (some (inRange q) first) (some (inRange q) second)
+isQualifier catalogue q (alike ranges) = anyOf (inRange q) ranges
+isQualifier catalogue q (first cat2 second) = cond (eqb catalogue dcixs) (anyOf (inRange q) first) (anyOf (inRange q) second)
 
 -- a row has the type in the catalogue
 abbrev pub hasType : ℕ → ℕ → Row → Bool
-hasType catalogue t r = some (isType catalogue t) (r .types)
+hasType catalogue t r = anyOf (isType catalogue t) (r .types)
 
 -- the row that has it, and a row with nothing permitted where none has
 abbrev pub rowIn : List Row → ℕ → ℕ → Row
@@ -113,7 +113,7 @@ permitted t qualifier address data' mode = record { «command_type» = t; qualif
 abbrev pub saidBy : Row → ℕ → ℕ → ℕ → ℕ → Permits
 saidBy r catalogue mode t qualifier =
     permitted (hasType catalogue t r) (isQualifier catalogue qualifier (r .qualifiers)) (not (r .zeroAddress)) (not (r .zeroData))
-    (some (eqb mode) (r .modes))
+    (anyOf (eqb mode) (r .modes))
 
 -- what the table says
 unfoldable pub permits : ℕ → ℕ → ℕ → ℕ → Permits

@@ -3,6 +3,7 @@ mod table;
 
 use crate::table::Permits;
 use crate::table::look_up;
+use base::Bytes;
 use base::number::either;
 use base::refusal::ARGUMENT;
 use base::refusal::COMMAND_FIELD;
@@ -14,7 +15,7 @@ ghost use mathlib.Core.Path.{_≡_};
 ghost use lib.Dec.{eqb};
 ghost use lib.ListN.{drop};
 ghost use Rattle.base.specs.Refusal.{verdict};
-ghost use Rattle.command_catalogue.specs.Table.{some};
+ghost use Rattle.command_catalogue.specs.Table.{anyOf};
 ghost use Rattle.command_catalogue.specs.Rules.{askedWrong, patchLengths, zeros, fieldsWrong, furtherWrong, judgeCauses};
 
 // The catalogues and the modes, as the calls take them: catalogue 1 is D-CIXS, 2 is C1XS.
@@ -38,9 +39,10 @@ pub fn asked_wrong(catalogue: u8, mode: u8) -> bool
     !(((catalogue == DCIXS) | (catalogue == C1XS)) & (mode <= OPERATING))
 }
 
-fn patch_length(catalogue: u8, n: usize) -> bool
-    ensures { λ r. ⌜ r ≡ some (eqb n) (patchLengths catalogue) ⌝ }
+fn patch_length(catalogue: u8, further: Bytes) -> bool
+    ensures { λ r. ⌜ r ≡ anyOf (eqb (further .0)) (patchLengths catalogue) ⌝ }
 {
+    let n = further.0;
     let shared = (n == 8) | (n == 16) | (n == 32);
     either(
         catalogue == DCIXS,
@@ -49,10 +51,10 @@ fn patch_length(catalogue: u8, n: usize) -> bool
     )
 }
 
-fn zeros_from(bytes: &[u8], from: usize) -> bool
-    ensures { λ r. ⌜ r ≡ zeros (drop from (now (bytes .entry))) ⌝ }
+fn zeros_from(bytes: &[u8], from: Bytes) -> bool
+    ensures { λ r. ⌜ r ≡ zeros (drop (from .0) (now (bytes .entry))) ⌝ }
 {
-    let mut i = from;
+    let mut i = from.0;
     while i < bytes.len() {
         if bytes[i] != 0 {
             return false;
@@ -62,12 +64,12 @@ fn zeros_from(bytes: &[u8], from: usize) -> bool
     true
 }
 
-fn fields_wrong(row: Permits, command_type: u8, address: u16, data: u16, n: usize) -> bool
-    ensures { λ r. ⌜ r ≡ fieldsWrong row «command_type» address «data» n ⌝ }
+fn fields_wrong(row: Permits, command_type: u8, address: u16, data: u16, further: Bytes) -> bool
+    ensures { λ r. ⌜ r ≡ fieldsWrong row «command_type» address «data» (further .0) ⌝ }
 {
-    let actual = data as usize;
+    let actual = Bytes(data as usize);
     !(row.qualifier & (row.address | (address == 0)) & (row.data | (data == 0)))
-        | (command_type == PATCH) & !((1 <= actual) & (actual <= n))
+        | (command_type == PATCH) & !((1 <= actual.0) & (actual.0 <= further.0))
 }
 
 fn further_wrong(catalogue: u8, command_type: u8, data: u16, further: &[u8]) -> bool
@@ -75,8 +77,8 @@ fn further_wrong(catalogue: u8, command_type: u8, data: u16, further: &[u8]) -> 
 {
     let n = further.len();
     if command_type == PATCH {
-        let actual = data as usize;
-        return !patch_length(catalogue, n) | !zeros_from(further, actual);
+        let actual = Bytes(data as usize);
+        return !patch_length(catalogue, Bytes(n)) | !zeros_from(further, actual);
     }
     !(n == 0)
 }
@@ -94,7 +96,7 @@ pub fn judge(
     ensures { λ r. ⌜ r ≡ verdict (judgeCauses catalogue mode «command_type» qualifier address «data» (now (further .entry))) ⌝ }
 {
     let row = look_up(catalogue, mode, command_type, qualifier);
-    let field = fields_wrong(row, command_type, address, data, further.len());
+    let field = fields_wrong(row, command_type, address, data, Bytes(further.len()));
     let more = further_wrong(catalogue, command_type, data, further);
     let last = cause(MODE, !row.mode, 0);
     let others = cause(COMMAND_FIELD, field, cause(FURTHER_DATA, more, last));

@@ -15,7 +15,10 @@ ghost use mathlib.Core.Bool.{false};
 ghost use Prim.Native.Nat.{_≤_};
 ghost use lib.ListN.{length};
 ghost use Rattle.base.specs.Refusal.{verdict};
+ghost use Rattle.command_catalogue.specs.Table.{dcixs};
 ghost use Rattle.command_catalogue.specs.Rules.{askedWrong};
+ghost use Rattle.command.specs.Layout.{leastBytes};
+ghost use Rattle.command.specs.Asking.{mostBytes};
 ghost use Rattle.command_reading.specs.Reading.{headerWrong, packetCauses, given, readReply, furtherReply};
 
 // The reader's reply: the fields and the number of further bytes.
@@ -50,7 +53,7 @@ fn give(verdict: u8, fields: Fields, further: Bytes) -> Command
 }
 
 fn header_wrong(bytes: &[u8]) -> bool
-    requires { ⌜ 14 ≤ length (now bytes) ⌝ }
+    requires { ⌜ leastBytes ≤ length (now bytes) ⌝ }
     ensures { λ r. ⌜ r ≡ headerWrong (now (bytes .entry)) ⌝ }
 {
     let size = word_at(bytes, Bytes(4)) as usize;
@@ -61,7 +64,7 @@ fn header_wrong(bytes: &[u8]) -> bool
 
 // The verdict on a packet of a permitted length, in a catalogue and a mode that there are: its header, its CRC, then its fields and further bytes.
 fn inspect(catalogue: u8, mode: u8, fields: Fields, bytes: &[u8]) -> u8
-    requires { ⌜ (askedWrong catalogue mode ≡ false) × (14 ≤ length (now bytes)) × (length (now bytes) ≤ 227) ⌝ }
+    requires { ⌜ (askedWrong catalogue mode ≡ false) × (leastBytes ≤ length (now bytes)) × (length (now bytes) ≤ mostBytes dcixs) ⌝ }
     ensures { λ r. ⌜ r ≡ verdict (packetCauses catalogue mode fields (now (bytes .entry))) ⌝ }
 {
     let start = HEAD.0;

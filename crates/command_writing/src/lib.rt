@@ -14,7 +14,9 @@ ghost use mathlib.Core.Path.{_≡_};
 ghost use Prim.Native.Nat.{_+_, _≤_, _<_};
 ghost use lib.ListN.{length};
 ghost use Rattle.base_room.specs.Room.{put};
+ghost use Rattle.command_catalogue.specs.Table.{dcixs};
 ghost use Rattle.command.specs.Layout.{leastBytes, sequenceCounts, laid, widths, headOf, commandBytes};
+ghost use Rattle.command.specs.Asking.{mostBytes};
 ghost use Rattle.command_writing.specs.Writing.{settled, writeReply, writeRoom};
 
 // The writer's reply: the bytes written, 0 on a refusal.
@@ -65,7 +67,7 @@ fn plan(catalogue: u8, mode: u8, fields: Fields, further: &[u8], room: Bytes) ->
 }
 
 // The head of a command of so many bytes.
-fn head(fields: Fields, total: Bytes) -> [u8; 12]
+fn head(fields: Fields, total: Bytes) -> [u8; HEAD.0]
     requires { ⌜ (fields .sequence < sequenceCounts) × (leastBytes ≤ total .0) × (total .0 < 65536) ⌝ }
     ensures { λ r. ⌜ r ≡ laid widths (headOf (total .0) fields) ⌝ }
 {
@@ -89,7 +91,7 @@ fn head(fields: Fields, total: Bytes) -> [u8; 12]
 
 // The bytes of a command that fits. The CRC goes over the head, then on over the further bytes where they stand.
 fn place(fields: Fields, further: &[u8], room: &mut [u8])
-    requires { ⌜ (fields .sequence < sequenceCounts) × (leastBytes + length (now further) ≤ 227) × (leastBytes + length (now further) ≤ length (now room)) ⌝ }
+    requires { ⌜ (fields .sequence < sequenceCounts) × (leastBytes + length (now further) ≤ mostBytes dcixs) × (leastBytes + length (now further) ≤ length (now room)) ⌝ }
     ensures { λ _. ⌜ now (room .exit) ≡ put (commandBytes fields (now (further .entry))) 0 (now (room .entry)) ⌝ }
 {
     let n = further.len();

@@ -1,4 +1,4 @@
--- A folded-one of each loop: four words, and eight bytes as four words, bring the invariant of `Walk` on.
+-- A turn of each loop: four words, and eight bytes as four words, bring the invariant of `Walk` on.
 use mathlib.Core.Path.{_≡_, refl, _∙_}
 use mathlib.Core.List.{List}
 use Prim.Native.Nat.{ℕ, _+_, _<_, _≤_}

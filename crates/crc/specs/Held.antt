@@ -3,7 +3,7 @@ use mathlib.Core.List.{List, [], _∷_}
 use Prim.Native.Nat.{ℕ, _+_}
 use lib.ListN.{getD}
 use Rattle.base.specs.Number.{word}
-use Rattle.crc_division.specs.Blocks.{joined}
+use Rattle.crc_division.specs.Blocks.{afterBlock}
 use Rattle.crc.specs.declared.held.Held.{Held}
 
 -- at a place of a message: four words, or four pairs of bytes, the high one first
@@ -18,4 +18,4 @@ pairsAt m i = pairAt m i ∷ pairAt m (i + 2) ∷ pairAt m (i + 4) ∷ pairAt m 
 
 -- the register of the sixteen words held
 unfoldable pub registerOf : Held → ℕ
-registerOf h = joined (joined (joined (joined 0 (h .first)) (h .second)) (h .third)) (h .fourth)
+registerOf h = afterBlock (afterBlock (afterBlock (afterBlock 0 (h .first)) (h .second)) (h .third)) (h .fourth)

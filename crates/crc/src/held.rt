@@ -7,7 +7,7 @@ ghost use mathlib.Core.Path.{_≡_};
 ghost use mathlib.Core.List.{[], _∷_};
 ghost use Prim.Native.Nat.{_+_, _≤_};
 ghost use lib.ListN.{length};
-ghost use Rattle.crc_division.specs.Blocks.{lanes, joined};
+ghost use Rattle.crc_division.specs.Blocks.{lanes, afterBlock};
 ghost use Rattle.crc.specs.Held.{wordsAt, pairAt, pairsAt, registerOf};
 
 // Sixteen words, four to a block; a block has its first word lowest, as one load of 64 bits gives it.
@@ -74,7 +74,7 @@ pub fn begin(r: u16) -> Held
 
 // A block more: the first four words are put down again, and it takes the last place.
 pub fn join(h: Held, block: u64) -> Held
-    ensures { λ s. ⌜ registerOf s ≡ joined (registerOf h) block ⌝ }
+    ensures { λ s. ⌜ registerOf s ≡ afterBlock (registerOf h) block ⌝ }
 {
     Held {
         first: h.first ^ h.second,

@@ -5,7 +5,7 @@ use lib.Bits.{xor-zero-r}
 use Rattle.base.specs.Xor.{_⊕_}
 use Rattle.base.proofs.Linear.{Linear, shr, low, after}
 use Rattle.crc_division.specs.Crc.{crcBit, crcStep, crcWords}
-use Rattle.crc_division.specs.Blocks.{lanes, joined}
+use Rattle.crc_division.specs.Blocks.{lanes, afterBlock}
 use Rattle.crc_division.proofs.Linear.{xorLists, words-linear}
 use Rattle.crc_division.proofs.Powers.{by-powers}
 
@@ -15,14 +15,14 @@ lane k = after (λ x. x / 2 ^ k) (λ x. x % 2 ^ 16) (shr k) (low 16)
 lanes-linear : (x y : ℕ) → lanes (x ⊕ y) ≡ xorLists (lanes x) (lanes y)
 lanes-linear x y = cc (low 16 x y, lane 16 x y, lane 32 x y, lane 48 x y)
 
-pub joined-linear : (r s x y : ℕ) → joined (r ⊕ s) (x ⊕ y) ≡ joined r x ⊕ joined s y
-unfolding joined
-joined-linear r s x y = ap (crcWords (r ⊕ s)) (lanes-linear x y) ∙ words-linear r s (lanes x) (lanes y) refl
+pub after-block-linear : (r s x y : ℕ) → afterBlock (r ⊕ s) (x ⊕ y) ≡ afterBlock r x ⊕ afterBlock s y
+unfolding afterBlock
+after-block-linear r s x y = ap (crcWords (r ⊕ s)) (lanes-linear x y) ∙ words-linear r s (lanes x) (lanes y) refl
 
 -- the register goes into the first word, the lowest
-pub into-block : (r x : ℕ) → r < 2 ^ 16 → joined r x ≡ joined 0 (x ⊕ r)
-unfolding crcBit crcStep joined
+pub into-block : (r x : ℕ) → r < 2 ^ 16 → afterBlock r x ≡ afterBlock 0 (x ⊕ r)
+unfolding crcBit crcStep afterBlock
 into-block r x h =
-    ap (joined r) (sym (xor-zero-r x)) ∙ joined-linear 0 r x 0
-    ∙ ap (λ (n : ℕ). joined 0 x ⊕ n) (by-powers (λ n. joined n 0) (joined 0) (λ m n. joined-linear m n 0 0) (λ m n. joined-linear 0 0 m n) 16 tt r h)
-    ∙ sym (joined-linear 0 0 x r)
+    ap (afterBlock r) (sym (xor-zero-r x)) ∙ after-block-linear 0 r x 0
+    ∙ ap (λ (n : ℕ). afterBlock 0 x ⊕ n) (by-powers (λ n. afterBlock n 0) (afterBlock 0) (λ m n. after-block-linear m n 0 0) (λ m n. after-block-linear 0 0 m n) 16 tt r h)
+    ∙ sym (after-block-linear 0 0 x r)

@@ -7,18 +7,18 @@ use lib.Bits.{xor-zero-r}
 use lib.ListN.{length}
 use Rattle.base.specs.Xor.{_⊕_}
 use Rattle.base.proofs.Linear.{shr, shl-in}
-use Rattle.crc_division.specs.Blocks.{joined}
+use Rattle.crc_division.specs.Blocks.{afterBlock}
 use Rattle.crc_division.proofs.Powers.{by-powers}
 use Rattle.crc_division.proofs.Linear.{xorLists, fold-linear}
-use Rattle.crc_division.proofs.Blocks.{joined-linear}
+use Rattle.crc_division.proofs.Blocks.{after-block-linear}
 use Rattle.crc_division.specs.Crc.{crcBit, crcStep}
 
 -- the register of blocks one after the other
 abbrev pub blocks : List ℕ → ℕ
-blocks = foldl joined 0
+blocks = foldl afterBlock 0
 
 blocks-linear : (m n : List ℕ) → length m ≡ length n → blocks (xorLists m n) ≡ blocks m ⊕ blocks n
-blocks-linear = fold-linear joined joined-linear 0 0
+blocks-linear = fold-linear afterBlock after-block-linear 0 0
 
 -- ---- the block that goes, and what is put down for it
 
@@ -32,22 +32,22 @@ comes-linear : (d e : ℕ) → comes (d ⊕ e) ≡ xorLists (comes d) (comes e)
 comes-linear d e = cc (shl-in 64 48 d e, shr 16 d e)
 
 goes-comes : (d : ℕ) → d < 2 ^ 64 → blocks (goes d) ≡ blocks (comes d)
-unfolding crcBit crcStep joined
+unfolding crcBit crcStep afterBlock
 goes-comes =
     by-powers (λ d. blocks (goes d)) (λ d. blocks (comes d)) (λ d e. blocks-linear (goes d) (goes e) refl)
     (λ d e. ap blocks (comes-linear d e) ∙ blocks-linear (comes d) (comes e) refl) 64 tt
 
 -- ---- a block more
 
-nothing : joined 0 0 ≡ 0
-unfolding crcBit crcStep joined
+nothing : afterBlock 0 0 ≡ 0
+unfolding crcBit crcStep afterBlock
 nothing = refl
 
 pub join : (d c b a x : ℕ) → d < 2 ^ 64 → blocks (xorLists (comes d) (c ∷ b ∷ a ∷ x ∷ [])) ≡ blocks (d ∷ c ∷ b ∷ a ∷ x ∷ [])
 join d c b a x h =
     blocks-linear (comes d) (c ∷ b ∷ a ∷ x ∷ []) refl
     ∙ ap (λ (n : ℕ). n ⊕ blocks (c ∷ b ∷ a ∷ x ∷ [])) (sym (goes-comes d h))
-    ∙ ap (λ (n : ℕ). blocks (goes d) ⊕ foldl joined n (c ∷ b ∷ a ∷ x ∷ [])) (sym nothing)
+    ∙ ap (λ (n : ℕ). blocks (goes d) ⊕ foldl afterBlock n (c ∷ b ∷ a ∷ x ∷ [])) (sym nothing)
     ∙ sym (blocks-linear (goes d) (0 ∷ c ∷ b ∷ a ∷ x ∷ []) refl)
     ∙ ap (λ (n : ℕ). blocks (n ∷ c ∷ b ∷ a ∷ x ∷ [])) (xor-zero-r d)
 

@@ -9,5 +9,5 @@ abbrev pub lanes : ℕ → List ℕ
 lanes x = lowWord x ∷ lowWord (x / 2 ^ 16) ∷ lowWord (x / 2 ^ 32) ∷ lowWord (x / 2 ^ 48) ∷ []
 
 -- the register after them
-unfoldable pub joined : ℕ → ℕ → ℕ
-joined r x = crcWords r (lanes x)
+unfoldable pub afterBlock : ℕ → ℕ → ℕ
+afterBlock r x = crcWords r (lanes x)

@@ -3,7 +3,7 @@
 use base::number;
 ghost use mathlib.Core.Path.{_≡_};
 ghost use Rattle.crc_division.specs.Crc.{crcBits};
-ghost use Rattle.crc_division.specs.Blocks.{joined};
+ghost use Rattle.crc_division.specs.Blocks.{afterBlock};
 
 // Eight bits.
 pub fn eight(r: u16) -> u16
@@ -25,7 +25,7 @@ pub fn sixteen(r: u16) -> u16
 
 // The four words of a block, which has its first word lowest: y has it highest, as they go by.
 pub fn sixty_four(r: u16, block: u64) -> u16
-    ensures { λ s. ⌜ s ≡ joined r block ⌝ }
+    ensures { λ s. ⌜ s ≡ afterBlock r block ⌝ }
 {
     let x = block ^ (r as u64);
     let y = (x << 48) ^ (x >> 16 << 48 >> 16) ^ (x << 16 >> 48 << 16) ^ (x >> 48);

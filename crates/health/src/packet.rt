@@ -127,8 +127,8 @@ pub fn read_packet(packet: &[u16]) -> Packet
 }
 
 // The writer's reply.
-fn plan(packet_type: u16, words: usize, room: usize) -> Written
-    ensures { λ r. ⌜ r ≡ writeReply «packet_type» words room ⌝ }
+fn plan(packet_type: u16, words: Words, room: Words) -> Written
+    ensures { λ r. ⌜ r ≡ writeReply «packet_type» (words .0) (room .0) ⌝ }
 {
     refusal::settle(
         refusal::cause(
@@ -136,8 +136,8 @@ fn plan(packet_type: u16, words: usize, room: usize) -> Written
             !writable(packet_type),
             refusal::cause(
                 refusal::LENGTH,
-                words != BODY.0,
-                refusal::cause(refusal::ROOM, room < PACKET.0, 0),
+                words.0 != BODY.0,
+                refusal::cause(refusal::ROOM, room.0 < PACKET.0, 0),
             ),
         ),
         PACKET,
@@ -149,7 +149,7 @@ pub fn write_packet(packet_type: u16, time: u16, words: &[u16], room: &mut [u16]
     ensures { λ r. ⌜ r ≡ writeReply «packet_type» (length (now (words .entry))) (length (now (room .entry))) ⌝ }
     ensures { λ _. ⌜ now (room .exit) ≡ writeRoom «packet_type» time (now (words .entry)) (now (room .entry)) ⌝ }
 {
-    let reply = plan(packet_type, words.len(), room.len());
+    let reply = plan(packet_type, Words(words.len()), Words(room.len()));
     if reply.refusal != 0 {
         return reply;
     }

@@ -15,11 +15,12 @@ pub fn checksums_refusal(packet: &[u16]) -> u8
 }
 
 // The eight pages of the camera whose words begin at a place.
-fn pages(packet: &[u16], from: usize) -> [u16; 8]
-    requires { ⌜ from + 8 ≤ length (now packet) ⌝ }
-    ensures { λ r. ⌜ r ≡ take 8 (drop from (now (packet .entry))) ⌝ }
+fn pages(packet: &[u16], at: Words) -> [u16; 8]
+    requires { ⌜ at .0 + 8 ≤ length (now packet) ⌝ }
+    ensures { λ r. ⌜ r ≡ take 8 (drop (at .0) (now (packet .entry))) ⌝ }
 {
     let mut words = [0u16; 8];
+    let from = at.0;
     let end = from + 8;
     base_room::put_words(&packet[from..end], &mut words, Words(0));
     words
@@ -33,8 +34,8 @@ pub fn checksums(packet: &[u16]) -> [[u16; 8]; 3]
         let none = [0u16; 8];
         return [none; 3];
     }
-    let first = pages(packet, 3);
-    let second = pages(packet, 11);
-    let third = pages(packet, 19);
+    let first = pages(packet, Words(3));
+    let second = pages(packet, Words(11));
+    let third = pages(packet, Words(19));
     [first, second, third]
 }

@@ -1,9 +1,11 @@
 // The observations of a camera in a health packet: types 4, 5 and 6 for cameras 1, 2 and 3. A packet of another type is refused by 7.
 use base::Words;
+use base::number;
 use health::packet;
 ghost use mathlib.Core.Path.{_≡_};
 ghost use Prim.Native.Nat.{_≤_};
 ghost use lib.ListN.{length, getD};
+ghost use Rattle.base.specs.Number.{highByte, lowByte, bitSet};
 ghost use Rattle.base.specs.Size.{packetWidth};
 ghost use Rattle.base.specs.Refusal.{verdict};
 ghost use Rattle.health_observation.specs.Observation.{modeOf, isObservation, observationCauses, refused, observationOf, observationReply};
@@ -48,6 +50,27 @@ fn mode_of(byte: u16) -> Mode
         3 => Mode::NoAcquisition,
         _ => Mode::Disabled,
     }
+}
+
+// A byte of a word, as a number of a word's width.
+fn high(word: u16) -> u16
+    ensures { λ r. ⌜ r ≡ highByte word ⌝ }
+{
+    number::high_byte(word) as u16
+}
+
+fn low(word: u16) -> u16
+    ensures { λ r. ⌜ r ≡ lowByte word ⌝ }
+{
+    number::low_byte(word) as u16
+}
+
+// Whether a bit of a word is 1; bit 15 is the most significant.
+fn flag(word: u16, bit: u16) -> bool
+    requires { ⌜ bit ≤ 15 ⌝ }
+    ensures { λ r. ⌜ r ≡ bitSet word bit ⌝ }
+{
+    (word >> bit) % 2 == 1
 }
 
 // By the type and words 6 and 7.
@@ -112,15 +135,15 @@ fn observation_fields(packet: &[u16]) -> Observed
         crc: base_room::word_at(packet, Words(1)),
         time: base_room::word_at(packet, Words(2)),
         frame: base_room::word_at(packet, Words(3)),
-        period: times / 256,
-        exposure: times % 256,
-        mode: mode_of(mode_word / 256),
+        period: high(times),
+        exposure: low(times),
+        mode: mode_of(high(mode_word)),
         mode_word,
-        rice_en: flags / 32768 % 2 == 1,
-        rice_dt: flags / 16384 % 2 == 1,
-        flat_en: flags / 8192 % 2 == 1,
-        ff_led_en: flags / 4096 % 2 == 1,
-        st_asap: flags / 2048 % 2 == 1,
+        rice_en: flag(flags, 15),
+        rice_dt: flag(flags, 14),
+        flat_en: flag(flags, 13),
+        ff_led_en: flag(flags, 12),
+        st_asap: flag(flags, 11),
         region: base_room::word_at(packet, Words(7)) / 4096,
         others,
         bins,

@@ -1,5 +1,6 @@
 // The single event upsets of a health packet of type 10; a packet of another type is refused by 7.
 use base::Words;
+use base::number;
 use health::packet;
 ghost use mathlib.Core.Path.{_≡_};
 ghost use mathlib.Core.List.{map};
@@ -26,7 +27,7 @@ pub struct UpsetTable {
 fn last_filled(packet: &[u16]) -> u16
     ensures { λ r. ⌜ r ≡ lastFilled (now (packet .entry)) ⌝ }
 {
-    base_room::word_at(packet, Words(4)) % 256
+    number::low_byte(base_room::word_at(packet, Words(4))) as u16
 }
 
 fn upset_verdict(packet: &[u16]) -> u8

@@ -35,7 +35,7 @@ word-at (b ∷ l ∷ bytes) (suc i) h =
     let o : 2 * suc i + 1 ≡ suc (suc (2 * i + 1)) = omega arith in
     word-at bytes i (omega arith) ∙ sym (ap₂ (λ (x y : ℕ). word (getD (b ∷ l ∷ bytes) x 0) (getD (b ∷ l ∷ bytes) y 0)) e o)
 
--- one pasted-more of the loop
+-- one turn of the loop
 pub joined : (bytes room₀ room : List ℕ) (i w : ℕ) → Pasted (wordsOf bytes) room₀ 0 room i → i < length bytes / 2
     → w ≡ word (getD bytes (2 * i) 0) (getD bytes (2 * i + 1) 0) → Pasted (wordsOf bytes) room₀ 0 (set room i w) (i + 1)
 joined bytes room₀ room i w p h e =

@@ -6,6 +6,7 @@ use Rattle.base.specs.Limit.{reelLimit}
 use Rattle.base.specs.Size.{parityWidth}
 use Rattle.crc.specs.Crc.{crcWords, crcStart}
 use Rattle.chunk.specs.declared.Entry.{Entry}
+use Rattle.chunk.specs.Header.{headerWidth}
 use Rattle.chunk.specs.Reading.{reading}
 
 -- the words of an entry, and of the trailer
@@ -54,7 +55,7 @@ reelWords n count = n + entryWidth * count + trailerWidth
 
 -- the shortest chunk has 11 words: two header words, and a unit with one data word
 abbrev pub shortestChunk : ℕ
-shortestChunk = 2 + parityWidth + 1
+shortestChunk = headerWidth + parityWidth + 1
 
 -- the shortest reel and the longest, 38,728 words: a recording at the limit, all of it in shortest chunks
 abbrev pub reelLeast : ℕ

@@ -44,7 +44,7 @@ module _ (sync : ℕ) (ws : List ℕ) (place : ℕ) where
   refused-payload h = sym (answer-no number (λ v. []) (take (size (getD (drop place ws) 1 0)) (drop 2 (drop place ws))) h)
 
   module _ (z : number ≡ 0) where
-    -- a chunk accepted-within there, within the recording
+    -- a chunk stands there, within the recording
     pub accepted-within : place + 2 + size header ≤ length ws
     unfolding listedAt
     accepted-within =

@@ -9,10 +9,10 @@ use Rattle.command_catalogue.proofs.zeros_from.Statement.{statement}
 use Rattle.command_catalogue.proofs.zeros_from.Tie as tie
 
 abbrev Inv-loop : tie.InvT-loop
-Inv-loop bytes from i₀ i = zeros (drop i bytes) ≡ zeros (drop from bytes)
+Inv-loop bytes from i = zeros (drop i bytes) ≡ zeros (drop from bytes)
 
 abbrev μ-loop : tie.MeasureT-loop
-μ-loop bytes from i₀ i = length bytes - i
+μ-loop bytes from i = length bytes - i
 
 loop-holds : tie.Need-loop-holds Inv-loop μ-loop
 loop-holds c = refl

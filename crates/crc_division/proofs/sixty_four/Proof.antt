@@ -8,8 +8,8 @@ use native.Mathlib.Omega.{arith}
 use Rattle.base.specs.Xor.{_⊕_}
 use Rattle.base.proofs.Linear.{Linear, shr, shl-in, low, same, plus, after}
 use Rattle.crc_division.specs.Crc.{crcBit, crcStep}
-use Rattle.crc_division.specs.Blocks.{joined}
-use Rattle.crc_division.proofs.Blocks.{joined-linear, into-block}
+use Rattle.crc_division.specs.Blocks.{afterBlock}
+use Rattle.crc_division.proofs.Blocks.{after-block-linear, into-block}
 use Rattle.crc_division.proofs.Powers.{by-powers, and-shr, rest, rest-linear}
 use Rattle.crc_division.proofs.sixty_four.Statement.{statement}
 use Rattle.crc_division.proofs.sixty_four.Tie as tie
@@ -67,9 +67,9 @@ code-linear =
     (rest-linear 64))
     (low 16)
 
-code-joined : (x : ℕ) → x < 2 ^ 64 → code x ≡ joined 0 x
-unfolding code crcBit crcStep joined
-code-joined = by-powers code (joined 0) code-linear (λ x y. joined-linear 0 0 x y) 64 tt
+code-after-block : (x : ℕ) → x < 2 ^ 64 → code x ≡ afterBlock 0 x
+unfolding code crcBit crcStep afterBlock
+code-after-block = by-powers code (afterBlock 0) code-linear (λ x y. after-block-linear 0 0 x y) 64 tt
 
 returns : tie.Need-returns
 unfolding code
@@ -77,7 +77,7 @@ returns c =
     let r = c .before .args .r in
     let b = c .before .args .block in
     let small : r < 2 ^ 64 = omega arith in
-    c .low-word .ensures ∙ code-joined (b ⊕ r) (xor-lt 64 b r (c .before .fits .block .fits) small)
+    c .low-word .ensures ∙ code-after-block (b ⊕ r) (xor-lt 64 b r (c .before .fits .block .fits) small)
     ∙ sym (into-block r b (c .before .fits .r .fits))
 
 pub sixty-four-spec : {M : Type 1} → statement M

@@ -9,7 +9,7 @@ use Rattle.health_checksums.proofs.pages.Tie as tie
 returns : tie.Need-returns
 returns c =
     let start = c .before .before .before .before .before in
-    fills-part (start .args .from) 8 (start .args .packet .now) _ (omega arith) refl (c .before .put-words .ensures)
+    fills-part (start .args .at .0) 8 (start .args .packet .now) _ (omega arith) refl (c .before .put-words .ensures)
 
 pub pages-spec : {M : Type 1} → statement M
 pages-spec =

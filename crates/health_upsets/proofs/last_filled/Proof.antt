@@ -7,4 +7,4 @@ returns : tie.Need-returns
 returns c = cc
 
 pub last-filled-spec : {M : Type 1} → statement M
-last-filled-spec = tie.close (tie.spec (λ c κs. search needs) returns)
+last-filled-spec = tie.close (tie.spec (λ c κs. search needs) (λ c κs. search needs) (λ c. search needs) returns)

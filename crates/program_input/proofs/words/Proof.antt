@@ -1,4 +1,4 @@
--- `program_input::words` meets its contract: the loop of `Pasting`, two bytes a pasted-more.
+-- `program_input::words` meets its contract: the loop of `Pasting`, two bytes a turn.
 use Prim.Native.Nat.{_-_, _/_}
 use native.Mathlib.Omega.{arith}
 use lib.ListN.{length}

@@ -1,7 +1,7 @@
 -- The functions of `crc_division` and `crc`: the contract, what the caller sees, and the definition that says it.
 use denote.Ref.{now}
 use Rattle.crc_division.specs.Crc.{crcBits, crcWords, crcBytes}
-use Rattle.crc_division.specs.Blocks.{joined}
+use Rattle.crc_division.specs.Blocks.{afterBlock}
 use Rattle.crc_division.proofs as crc_division
 use Rattle.crc.proofs as crc
 use Rattle.promises.specs.Ties.{Function, replies}
@@ -22,7 +22,7 @@ sixteen =
 abbrev pub sixtyFour : Function
 sixtyFour =
     replies crc_division.sixty_four.ended crc_division.sixty_four.Reads.Asked crc_division.sixty_four.Reads.Post
-    λ κs (r, (block, _)). joined r block
+    λ κs (r, (block, _)). afterBlock r block
 
 -- `crc::words`
 abbrev pub words : Function

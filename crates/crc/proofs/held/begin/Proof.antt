@@ -4,7 +4,7 @@ use Prim.Native.Nat.{ℕ, _*_, _/_, _%_, _^_}
 use Rattle.base.specs.Xor.{_⊕_}
 use Rattle.base.proofs.Linear.{Linear, shr, shl-in, same, after}
 use Rattle.crc.specs.Crc.{crcBit, crcStep}
-use Rattle.crc_division.specs.Blocks.{joined}
+use Rattle.crc_division.specs.Blocks.{afterBlock}
 use Rattle.crc.specs.Held.{registerOf}
 use Rattle.crc_division.proofs.Joining.{blocks, alone-linear}
 use Rattle.crc_division.proofs.Powers.{by-powers, and-shr, and-shl}
@@ -44,7 +44,7 @@ fourth-linear =
     (after (λ x. x / 2 ^ 48) (left 48) (shr 48) (shl-in 64 48))
 
 returns : tie.Need-returns
-unfolding fourth crcBit crcStep joined registerOf
+unfolding fourth crcBit crcStep afterBlock registerOf
 returns c =
     by-powers (λ r. blocks (0 ∷ 0 ∷ 0 ∷ fourth r ∷ [])) (λ r. r)
     (after fourth (λ x. blocks (0 ∷ 0 ∷ 0 ∷ x ∷ [])) fourth-linear alone-linear) same 16 tt (c .args .r) (c .fits .r .fits)
