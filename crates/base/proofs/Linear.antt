@@ -6,11 +6,11 @@ use native.Mathlib.Numerals.{one-add}
 use lib.Arith.{lt-one}
 use lib.Pow.{pow-pos, split, shr-lt}
 use lib.Bits.{xor-self, xor-shifted, xor-block, xor-shr, xor-mod}
-use Rattle.base.specs.Xor.{_⊕_}
+use Rattle.base.specs.Xor.{_xor_}
 use Rattle.base.proofs.XorLaws.{xor-swap}
 
 abbrev pub Linear : (ℕ → ℕ) → Type 0
-Linear f = (a b : ℕ) → f (a ⊕ b) ≡ f a ⊕ f b
+Linear f = (a b : ℕ) → f (a xor b) ≡ f a xor f b
 
 -- ---- what is linear
 
@@ -19,8 +19,8 @@ shr k a b = xor-shr a b k
 
 shl : (k : ℕ) → Linear (λ n. n * 2 ^ k)
 shl k a b =
-    sym (ap₂ _⊕_ (sym (add-zero (a * 2 ^ k))) (sym (add-zero (b * 2 ^ k)))
-    ∙ xor-block k a b 0 0 (pow-pos k) (pow-pos k) ∙ add-zero ((a ⊕ b) * 2 ^ k))
+    sym (ap₂ _xor_ (sym (add-zero (a * 2 ^ k))) (sym (add-zero (b * 2 ^ k)))
+    ∙ xor-block k a b 0 0 (pow-pos k) (pow-pos k) ∙ add-zero ((a xor b) * 2 ^ k))
 
 -- to the left by k in a word of w bits
 pub shl-in : (w k : ℕ) → Linear (λ n. n * 2 ^ k % 2 ^ w)
@@ -33,8 +33,8 @@ low k a b = xor-mod a b k
 pub same : Linear (λ n. n)
 same a b = refl
 
-pub plus : (f g : ℕ → ℕ) → Linear f → Linear g → Linear (λ n. f n ⊕ g n)
-plus f g hf hg a b = ap₂ _⊕_ (hf a b) (hg a b) ∙ xor-swap (f a) (f b) (g a) (g b)
+pub plus : (f g : ℕ → ℕ) → Linear f → Linear g → Linear (λ n. f n xor g n)
+plus f g hf hg a b = ap₂ _xor_ (hf a b) (hg a b) ∙ xor-swap (f a) (f b) (g a) (g b)
 
 pub after : (f g : ℕ → ℕ) → Linear f → Linear g → Linear (λ n. g (f n))
 after f g hf hg a b = ap g (hf a b) ∙ hg (f a) (f b)
@@ -55,7 +55,7 @@ module _ (f g : ℕ → ℕ) (hf : Linear f) (hg : Linear g) where
   agree (suc k) e n h =
       let low : n % 2 ^ k < 2 ^ k = mod-lt n (pow-pos k) in
       let q : n / 2 ^ k < 2 = shr-lt 1 k (subst (λ (x : ℕ). n < 2 ^ x) (sym (one-add k)) h) in
-      let s : n / 2 ^ k * 2 ^ k ⊕ n % 2 ^ k ≡ n = xor-shifted (n / 2 ^ k) k (n % 2 ^ k) low ∙ split n k in
+      let s : n / 2 ^ k * 2 ^ k xor n % 2 ^ k ≡ n = xor-shifted (n / 2 ^ k) k (n % 2 ^ k) low ∙ split n k in
       ap f (sym s) ∙ hf (n / 2 ^ k * 2 ^ k) (n % 2 ^ k)
-      ∙ ap₂ _⊕_ (top k (n / 2 ^ k) q (e k (le-refl (suc k)))) (agree k (λ i p. e i (lt-trans p (le-refl (suc k)))) (n % 2 ^ k) low)
+      ∙ ap₂ _xor_ (top k (n / 2 ^ k) q (e k (le-refl (suc k)))) (agree k (λ i p. e i (lt-trans p (le-refl (suc k)))) (n % 2 ^ k) low)
       ∙ sym (hg (n / 2 ^ k * 2 ^ k) (n % 2 ^ k)) ∙ ap g s

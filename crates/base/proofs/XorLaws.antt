@@ -6,7 +6,7 @@ use lib.Dec.{lit<}
 use lib.Arith.{bin-ind, digits-div, digits-mod}
 use lib.Bits.{differ, xor-step, xor-comm, xor-shr, xor-mod}
 use Rattle.base.specs.Number.{bitOf}
-use Rattle.base.specs.Xor.{_⊕_}
+use Rattle.base.specs.Xor.{_xor_}
 
 differ-lt : (x y : ℕ) → x < 2 → y < 2 → differ x y < 2
 differ-lt zero y p q = q
@@ -27,31 +27,31 @@ differ-assoc (suc (suc x)) y z p q r = absurd (not-suc-le-zero (le-of-suc-le-suc
 digit : (a b : ℕ) → differ (a % 2) (b % 2) < 2
 digit a b = differ-lt (a % 2) (b % 2) (mod-lt a (lit< tt)) (mod-lt b (lit< tt))
 
-half : (a b : ℕ) → (a ⊕ b) / 2 ≡ a / 2 ⊕ b / 2
-half a b = ap (λ (n : ℕ). n / 2) (xor-step a b) ∙ digits-div (a / 2 ⊕ b / 2) (digit a b)
+half : (a b : ℕ) → (a xor b) / 2 ≡ a / 2 xor b / 2
+half a b = ap (λ (n : ℕ). n / 2) (xor-step a b) ∙ digits-div (a / 2 xor b / 2) (digit a b)
 
-odd : (a b : ℕ) → (a ⊕ b) % 2 ≡ differ (a % 2) (b % 2)
-odd a b = ap (λ (n : ℕ). n % 2) (xor-step a b) ∙ digits-mod (a / 2 ⊕ b / 2) (digit a b)
+odd : (a b : ℕ) → (a xor b) % 2 ≡ differ (a % 2) (b % 2)
+odd a b = ap (λ (n : ℕ). n % 2) (xor-step a b) ∙ digits-mod (a / 2 xor b / 2) (digit a b)
 
-pub xor-assoc : (a b c : ℕ) → a ⊕ b ⊕ c ≡ a ⊕ (b ⊕ c)
+pub xor-assoc : (a b c : ℕ) → a xor b xor c ≡ a xor (b xor c)
 xor-assoc =
-    bin-ind (λ (a : ℕ). (b c : ℕ) → a ⊕ b ⊕ c ≡ a ⊕ (b ⊕ c)) (λ b c. refl)
+    bin-ind (λ (a : ℕ). (b c : ℕ) → a xor b xor c ≡ a xor (b xor c)) (λ b c. refl)
     (λ a ih b c.
-    xor-step (a ⊕ b) c
+    xor-step (a xor b) c
     ∙ ap₂ (λ (x y : ℕ). x * 2 + y)
-    (ap (λ (n : ℕ). n ⊕ c / 2) (half a b) ∙ ih (b / 2) (c / 2) ∙ ap (λ (n : ℕ). a / 2 ⊕ n) (sym (half b c)))
+    (ap (λ (n : ℕ). n xor c / 2) (half a b) ∙ ih (b / 2) (c / 2) ∙ ap (λ (n : ℕ). a / 2 xor n) (sym (half b c)))
     (ap (λ (n : ℕ). differ n (c % 2)) (odd a b)
     ∙ differ-assoc (a % 2) (b % 2) (c % 2) (mod-lt a (lit< tt)) (mod-lt b (lit< tt)) (mod-lt c (lit< tt))
     ∙ ap (λ (n : ℕ). differ (a % 2) n) (sym (odd b c)))
-    ∙ sym (xor-step a (b ⊕ c)))
+    ∙ sym (xor-step a (b xor c)))
 
 -- the two in the middle change places
-pub xor-swap : (a b c d : ℕ) → (a ⊕ b) ⊕ (c ⊕ d) ≡ (a ⊕ c) ⊕ (b ⊕ d)
+pub xor-swap : (a b c d : ℕ) → (a xor b) xor (c xor d) ≡ (a xor c) xor (b xor d)
 xor-swap a b c d =
-    xor-assoc a b (c ⊕ d)
-    ∙ ap (λ (n : ℕ). a ⊕ n) (sym (xor-assoc b c d) ∙ ap (λ (n : ℕ). n ⊕ d) (xor-comm b c) ∙ xor-assoc c b d)
-    ∙ sym (xor-assoc a c (b ⊕ d))
+    xor-assoc a b (c xor d)
+    ∙ ap (λ (n : ℕ). a xor n) (sym (xor-assoc b c d) ∙ ap (λ (n : ℕ). n xor d) (xor-comm b c) ∙ xor-assoc c b d)
+    ∙ sym (xor-assoc a c (b xor d))
 
 -- bit k of an exclusive-or is that of the two bits
-pub xor-bit : (k a b : ℕ) → bitOf (a ⊕ b) k ≡ bitOf a k ⊕ bitOf b k
+pub xor-bit : (k a b : ℕ) → bitOf (a xor b) k ≡ bitOf a k xor bitOf b k
 xor-bit k a b = ap (λ (n : ℕ). n % 2) (xor-shr a b k) ∙ xor-mod (a / 2 ^ k) (b / 2 ^ k) 1

@@ -2,7 +2,7 @@
 use Prim.Native.Nat.{ℕ}
 use lib.Bits.{bitXor}
 
-abbrev pub _⊕_ : ℕ → ℕ → ℕ
-_⊕_ = bitXor
+abbrev pub _xor_ : ℕ → ℕ → ℕ
+_xor_ = bitXor
 
-infixl 60 _⊕_
+infixl 60 _xor_

@@ -6,7 +6,7 @@ use native.Mathlib.Nat.{mod-lt, div-add-mod'}
 use native.Mathlib.Omega.{arith}
 use lib.Dec.{lit<}
 use lib.Bits.{xor-shifted}
-use Rattle.base.specs.Xor.{_⊕_}
+use Rattle.base.specs.Xor.{_xor_}
 use Rattle.base.specs.Number.{word}
 use Rattle.base.proofs.XorLaws.{xor-assoc}
 use Rattle.base.proofs.Linear.{shl-in}
@@ -30,11 +30,11 @@ pub word-bytes : (r h l : ℕ) → l < 256 → crcStep 16 r (word h l) ≡ crcSt
 unfolding crcStep
 word-bytes r h l b =
     ap (crcStep 16 r) (sym (xor-shifted h 8 l b))
-    ∙ word-step r (h * 256 ⊕ l)
+    ∙ word-step r (h * 256 xor l)
     ∙ ap (crcBits 16) (sym (xor-assoc r (h * 256) l))
-    ∙ bits-linear 16 (r ⊕ h * 256) l
-    ∙ ap (λ (n : ℕ). crcBits 16 (r ⊕ h * 256) ⊕ crcBits 8 n) (waits l b)
-    ∙ sym (bits-linear 8 (crcBits 8 (r ⊕ h * 256)) (l * 256))
+    ∙ bits-linear 16 (r xor h * 256) l
+    ∙ ap (λ (n : ℕ). crcBits 16 (r xor h * 256) xor crcBits 8 n) (waits l b)
+    ∙ sym (bits-linear 8 (crcBits 8 (r xor h * 256)) (l * 256))
 
 pub words-bytes : (r : ℕ) (m : List ℕ) → crcWords r m ≡ crcBytes r (bytesOf m)
 words-bytes r [] = refl

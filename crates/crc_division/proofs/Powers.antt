@@ -5,7 +5,7 @@ use mathlib.Core.Bool.{Bool}
 use Prim.Native.Nat.{ℕ, _*_, _/_, _%_, _^_, _<_}
 use lib.Dec.{T, eqb, eqb→eq}
 use lib.ListN.{replicate, length-replicate}
-use Rattle.base.specs.Xor.{_⊕_}
+use Rattle.base.specs.Xor.{_xor_}
 use Rattle.base.proofs.Every.{at, every}
 use Rattle.base.proofs.Linear.{Linear, shr, shl-in, same, plus, agree}
 
@@ -20,15 +20,15 @@ by-powers f g hf hg k t =
     (at (equalAt f g) (replicate k 0) t i (subst (λ (m : ℕ). i < m) (sym (length-replicate k 0)) h)))
 
 -- with a shift to the right
-pub and-shr : (f : ℕ → ℕ) → Linear f → (k : ℕ) → Linear (λ x. f x ⊕ x / 2 ^ k)
+pub and-shr : (f : ℕ → ℕ) → Linear f → (k : ℕ) → Linear (λ x. f x xor x / 2 ^ k)
 and-shr f hf k = plus f (λ x. x / 2 ^ k) hf (shr k)
 
-pub and-shl : (f : ℕ → ℕ) → Linear f → (width k : ℕ) → Linear (λ x. f x ⊕ x * 2 ^ k % 2 ^ width)
+pub and-shl : (f : ℕ → ℕ) → Linear f → (width k : ℕ) → Linear (λ x. f x xor x * 2 ^ k % 2 ^ width)
 and-shl f hf width k = plus f (λ x. x * 2 ^ k % 2 ^ width) hf (shl-in width k)
 
 -- what a quotient leaves below: times the polynomial, without its top bit
 abbrev pub rest : ℕ → ℕ → ℕ
-rest width q = q ⊕ q * 2 ^ 5 % 2 ^ width ⊕ q * 2 ^ 12 % 2 ^ width
+rest width q = q xor q * 2 ^ 5 % 2 ^ width xor q * 2 ^ 12 % 2 ^ width
 
 pub rest-linear : (width : ℕ) → Linear (rest width)
-rest-linear width = and-shl (λ q. q ⊕ q * 2 ^ 5 % 2 ^ width) (and-shl (λ q. q) same width 5) width 12
+rest-linear width = and-shl (λ q. q xor q * 2 ^ 5 % 2 ^ width) (and-shl (λ q. q) same width 5) width 12

@@ -2,7 +2,7 @@
 use mathlib.Core.List.{List, [], _∷_, foldl}
 use Prim.Native.Nat.{ℕ, zero, suc, _*_, _-_, _^_}
 use Rattle.base.specs.Number.{highByte, lowByte, bitOf, lowWord}
-use Rattle.base.specs.Xor.{_⊕_}
+use Rattle.base.specs.Xor.{_xor_}
 
 -- the register at the start
 abbrev pub crcStart : ℕ
@@ -14,7 +14,7 @@ crcPolynomial = 0x1021
 
 -- one bit: the register moves left by one, and where bit 15 was set the polynomial is exclusive-ored in
 unfoldable pub crcBit : ℕ → ℕ
-crcBit r = (bitOf r 15 * crcPolynomial) ⊕ lowWord (r * 2)
+crcBit r = (bitOf r 15 * crcPolynomial) xor lowWord (r * 2)
 
 -- n bits
 abbrev pub crcBits : ℕ → ℕ → ℕ
@@ -23,7 +23,7 @@ crcBits (suc n) r = crcBit (crcBits n r)
 
 -- one element of `width` bits, 16 for a word and 8 for a byte: it is exclusive-ored into the top of the register, and its bits go by
 unfoldable pub crcStep : ℕ → ℕ → ℕ → ℕ
-crcStep width r x = crcBits width (r ⊕ x * 2 ^ (16 - width))
+crcStep width r x = crcBits width (r xor x * 2 ^ (16 - width))
 
 -- a message: one element after the other, from the register r
 abbrev pub crcOver : ℕ → ℕ → List ℕ → ℕ

@@ -10,7 +10,7 @@ use lib.Count.{ones, leadingZeros}
 use lib.Bits.{xor-lt}
 use lib.ListN.{length, drop}
 use borrow.Author.Tests.{ltb-true}
-use Rattle.base.specs.Xor.{_⊕_}
+use Rattle.base.specs.Xor.{_xor_}
 use Rattle.base.specs.Refusal.{wrongParity}
 use Rattle.base.proofs.Booleans.{and-right}
 use Rattle.parity_rows.specs.declared.Sums.{Sums}
@@ -61,22 +61,22 @@ module _ (u : List ℕ) where
   unfolding columnDiffers
   column-bits c = xor-lt 1 (bitFrom u 4 c) (columnParity (drop 8 u) c) (from-lt u 4 c) (column-lt (drop 8 u) c)
 
-  rows-differ : statedParity u .rows ⊕ parities (drop 8 u) .rows ≡ number 64 (rowDiffers u)
+  rows-differ : statedParity u .rows xor parities (drop 8 u) .rows ≡ number 64 (rowDiffers u)
   unfolding rowDiffers
   rows-differ = sym (number-xor 64 (bitFrom u 0) (rowParity (drop 8 u)) (from-lt u 0) (row-lt (drop 8 u)))
 
-  columns-differ : statedParity u .columns ⊕ parities (drop 8 u) .columns ≡ number 64 (columnDiffers u)
+  columns-differ : statedParity u .columns xor parities (drop 8 u) .columns ≡ number 64 (columnDiffers u)
   unfolding columnDiffers
   columns-differ = sym (number-xor 64 (bitFrom u 4) (columnParity (drop 8 u)) (from-lt u 4) (column-lt (drop 8 u)))
 
   -- what the five cases find of them is what is found of the unit
   pub cases-find : (s p : Sums) → s ≡ statedParity u → p ≡ parities (drop 8 u)
-      → fiveCases (ones (s .rows ⊕ p .rows)) (ones (s .columns ⊕ p .columns)) (leadingZeros 64 (s .rows ⊕ p .rows)) (leadingZeros 64 (s .columns ⊕ p .columns))
+      → fiveCases (ones (s .rows xor p .rows)) (ones (s .columns xor p .columns)) (leadingZeros 64 (s .rows xor p .rows)) (leadingZeros 64 (s .columns xor p .columns))
       (length u - 8) ≡ finding u
   unfolding finding
   cases-find s p e f =
-      let r : s .rows ⊕ p .rows ≡ number 64 (rowDiffers u) = ap₂ (λ (x y : Sums). x .rows ⊕ y .rows) e f ∙ rows-differ in
-      let c : s .columns ⊕ p .columns ≡ number 64 (columnDiffers u) = ap₂ (λ (x y : Sums). x .columns ⊕ y .columns) e f ∙ columns-differ in
+      let r : s .rows xor p .rows ≡ number 64 (rowDiffers u) = ap₂ (λ (x y : Sums). x .rows xor y .rows) e f ∙ rows-differ in
+      let c : s .columns xor p .columns ≡ number 64 (columnDiffers u) = ap₂ (λ (x y : Sums). x .columns xor y .columns) e f ∙ columns-differ in
       ap₂ (λ (x y : ℕ). fiveCases (ones x) (ones y) (leadingZeros 64 x) (leadingZeros 64 y) (length u - 8)) r c
       ∙ same (ones-sum (rowDiffers u) row-bits 64) (ones-sum (columnDiffers u) column-bits 64) (leading-first 64 (rowDiffers u) row-bits)
       (leading-first 64 (columnDiffers u) column-bits)

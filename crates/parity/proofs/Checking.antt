@@ -9,7 +9,7 @@ use lib.Pow.{shl-exact}
 use lib.ListN.{length, getD, take, drop, set, length-drop, length-set, List·getD-append}
 use lib.Seq.{set-append-left}
 use borrow.Author.Tests.{ltb-false}
-use Rattle.base.specs.Xor.{_⊕_}
+use Rattle.base.specs.Xor.{_xor_}
 use Rattle.base_room.specs.Room.{put}
 use Rattle.base.proofs.Refused.{answer-no, answer-yes, spared}
 use Rattle.base_room.proofs.RoomLaws.{put-fits, put-length, to-end}
@@ -23,9 +23,9 @@ flip-put : (d room : List ℕ) (w b : ℕ) → w < length d → length d ≤ len
 unfolding flipped
 flip-put d room w b h fits =
     let t : List ℕ = drop (0 + length d) room in
-    let x : ℕ = getD d w 0 ⊕ 2 ^ b in
-    ap (λ (s : List ℕ). set s w (getD s w 0 ⊕ 2 ^ b)) (put-fits d 0 room (omega arith))
-    ∙ ap (λ (y : ℕ). set (d ++ t) w (y ⊕ 2 ^ b)) (List·getD-append d t 0 w h)
+    let x : ℕ = getD d w 0 xor 2 ^ b in
+    ap (λ (s : List ℕ). set s w (getD s w 0 xor 2 ^ b)) (put-fits d 0 room (omega arith))
+    ∙ ap (λ (y : ℕ). set (d ++ t) w (y xor 2 ^ b)) (List·getD-append d t 0 w h)
     ∙ set-append-left d t w x h
     ∙ ap (λ (m : ℕ). set d w x ++ drop (0 + m) room) (sym (length-set d w x))
     ∙ sym (put-fits (set d w x) 0 room (omega (arith, length-set d w x)))
@@ -95,11 +95,11 @@ module _ (u room : List ℕ) (r : Judged) (e : r ≡ checkReply u (length room))
       pub word-in-room : r .case ≡ 2 → r .word .0 < length room₁
       word-in-room h = omega (arith, data-flipped h .0, data-fit, length-drop 8 u, ap length p ∙ put-length (take (length u - 8) (drop 8 u)) 0 room)
 
-      pub data-repaired : r .case ≡ 2 → set room₁ (r .word .0) (getD room₁ (r .word .0) 0 ⊕ 1 * 2 ^ r .bit % 2 ^ 16) ≡ checkRoom u room
+      pub data-repaired : r .case ≡ 2 → set room₁ (r .word .0) (getD room₁ (r .word .0) 0 xor 1 * 2 ^ r .bit % 2 ^ 16) ≡ checkRoom u room
       unfolding flipped
       data-repaired h =
           let w = r .word .0 in
-          ap₂ (λ (s : List ℕ) (x : ℕ). set s w (getD s w 0 ⊕ x)) data-put (shl-exact 1 (r .bit) 16 (lit< tt) (omega (arith, bit-in-word h)) ∙ one-mul (2 ^ r .bit))
+          ap₂ (λ (s : List ℕ) (x : ℕ). set s w (getD s w 0 xor x)) data-put (shl-exact 1 (r .bit) 16 (lit< tt) (omega (arith, bit-in-word h)) ∙ one-mul (2 ^ r .bit))
           ∙ flip-put (drop 8 u) room w (r .bit) (omega (arith, data-flipped h .0, length-drop 8 u)) data-fit
           ∙ ap (λ (s : List ℕ). put s 0 room) (sym (data-flipped h .2))
           ∙ accepted-room

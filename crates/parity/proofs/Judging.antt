@@ -9,7 +9,7 @@ use lib.Dec.{leb, ltb}
 use lib.Count.{ones, leadingZeros}
 use lib.ListN.{length, drop}
 use borrow.Author.Tests.{leb-true, leb-false, lt-leb, le-ltb, lt-ltb}
-use Rattle.base.specs.Xor.{_⊕_}
+use Rattle.base.specs.Xor.{_xor_}
 use Rattle.base.proofs.Refused.{spared, verdict-kept, verdict-further, answer-no, answer-yes, answer-number}
 use Rattle.base.specs.Refusal.{Causes, answer, wrongLength, wrongParity, noRoom}
 use Rattle.parity_rows.specs.declared.Sums.{Sums}
@@ -62,7 +62,7 @@ judgement u h = simp h (by-finding (finding u))
 
 -- from the parity that the unit states and that of its data
 pub judged-by : (u : List ℕ) (s p : Sums) (r : Judged) → notUnit (length u) ≡ false → s ≡ statedParity u → p ≡ parities (drop 8 u)
-    → r ≡ named (fiveCases (ones (s .rows ⊕ p .rows)) (ones (s .columns ⊕ p .columns)) (leadingZeros 64 (s .rows ⊕ p .rows)) (leadingZeros 64 (s .columns ⊕ p .columns)) (length u - 8)) (length u - 8)
+    → r ≡ named (fiveCases (ones (s .rows xor p .rows)) (ones (s .columns xor p .columns)) (leadingZeros 64 (s .rows xor p .rows)) (leadingZeros 64 (s .columns xor p .columns)) (length u - 8)) (length u - 8)
     → r ≡ judgeReply u
 judged-by u s p r h e f q = q ∙ ap (λ (x : Finding). named x (length u - 8)) (cases-find u s p e f) ∙ judgement u h
 

@@ -4,7 +4,7 @@ use mathlib.Core.List.{List, [], _∷_, _++_}
 use Prim.Native.Nat.{ℕ, zero, suc, _+_, _-_, _*_, _/_, _%_, _^_}
 use lib.Dec.{leb, ltb, eqb}
 use lib.ListN.{length, getD, set, drop}
-use Rattle.base.specs.Xor.{_⊕_}
+use Rattle.base.specs.Xor.{_xor_}
 use Rattle.base.specs.Size.{parityWidth, dataWidth, unitWidth}
 use Rattle.base_room.specs.Room.{put}
 use Rattle.base.specs.Refusal.{Causes, verdict, answer, settled, wrongLength, wrongParity, noRoom}
@@ -18,17 +18,17 @@ unitOf d = parityWords d ++ d
 
 -- the words with one bit flipped; bit 15 of a word is the most significant
 unfoldable pub flipped : List ℕ → ℕ → ℕ → List ℕ
-flipped ws w b = set ws w (getD ws w 0 ⊕ 2 ^ b)
+flipped ws w b = set ws w (getD ws w 0 xor 2 ^ b)
 
 -- ---- R and C
 
 -- 1 where the parity that the unit has for row r, or for column c, differs from that of its data, else 0: the rows' parity is in the
 -- parity words from word 0 on, the columns' in those from word 4 on
 unfoldable pub rowDiffers : List ℕ → ℕ → ℕ
-rowDiffers u r = bitFrom u 0 r ⊕ rowParity (drop parityWidth u) r
+rowDiffers u r = bitFrom u 0 r xor rowParity (drop parityWidth u) r
 
 unfoldable pub columnDiffers : List ℕ → ℕ → ℕ
-columnDiffers u c = bitFrom u 4 c ⊕ columnParity (drop parityWidth u) c
+columnDiffers u c = bitFrom u 4 c xor columnParity (drop parityWidth u) c
 
 -- f 0 + f 1 + .. + f (n - 1): how many of them are 1
 unfoldable pub sumAll : ℕ → (ℕ → ℕ) → ℕ

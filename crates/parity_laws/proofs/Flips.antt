@@ -12,7 +12,7 @@ use lib.Bits.{xor-zero-r, xor-self}
 use lib.ListN.{length, getD, drop}
 use lib.Seq.{getD-set-same, getD-set-other, getD-drop}
 use borrow.Author.Tests.{eq-eqb, ne-eqb, eqb-true, eqb-false, ltb-true, ltb-false}
-use Rattle.base.specs.Xor.{_⊕_}
+use Rattle.base.specs.Xor.{_xor_}
 use Rattle.base.proofs.XorLaws.{xor-swap, xor-bit}
 use Rattle.base.specs.Number.{bitOf}
 use Rattle.parity_rows.specs.Parity.{xorAll, number, bitFrom, rowParity, columnParity, rowWord, columnWord, parityWords}
@@ -51,25 +51,25 @@ abbrev pub sameBit : ℕ → ℕ → ℕ → ℕ → Bool
 sameBit i b w n = eqb i (w + n / 16) && eqb b (15 - n % 16)
 
 module _ (u : List ℕ) (i b : ℕ) (h : i < length u) where
-  flip-word : (j : ℕ) → getD (flipped u i b) j 0 ≡ getD u j 0 ⊕ cond (eqb i j) (2 ^ b) 0
+  flip-word : (j : ℕ) → getD (flipped u i b) j 0 ≡ getD u j 0 xor cond (eqb i j) (2 ^ b) 0
   unfolding flipped
   flip-word j = by-test (eqb i j) refl
     where
-      by-test : (t : Bool) → eqb i j ≡ t → getD (flipped u i b) j 0 ≡ getD u j 0 ⊕ cond t (2 ^ b) 0
+      by-test : (t : Bool) → eqb i j ≡ t → getD (flipped u i b) j 0 ≡ getD u j 0 xor cond t (2 ^ b) 0
       by-test true e =
-          ap (λ (n : ℕ). getD (flipped u i b) n 0) (sym (eqb-true i j e)) ∙ getD-set-same u i (getD u i 0 ⊕ 2 ^ b) 0 h
-          ∙ ap (λ (n : ℕ). getD u n 0 ⊕ 2 ^ b) (eqb-true i j e)
-      by-test false e = getD-set-other u i j (getD u i 0 ⊕ 2 ^ b) 0 (λ z. eqb-false i j e (sym z)) ∙ sym (xor-zero-r (getD u j 0))
+          ap (λ (n : ℕ). getD (flipped u i b) n 0) (sym (eqb-true i j e)) ∙ getD-set-same u i (getD u i 0 xor 2 ^ b) 0 h
+          ∙ ap (λ (n : ℕ). getD u n 0 xor 2 ^ b) (eqb-true i j e)
+      by-test false e = getD-set-other u i j (getD u i 0 xor 2 ^ b) 0 (λ z. eqb-false i j e (sym z)) ∙ sym (xor-zero-r (getD u j 0))
 
-  flip-bit : (j q : ℕ) → bitOf (getD (flipped u i b) j 0) q ≡ bitOf (getD u j 0) q ⊕ one (eqb i j && eqb b q)
+  flip-bit : (j q : ℕ) → bitOf (getD (flipped u i b) j 0) q ≡ bitOf (getD u j 0) q xor one (eqb i j && eqb b q)
   flip-bit j q =
-      ap (λ (x : ℕ). bitOf x q) (flip-word j) ∙ xor-bit q (getD u j 0) (cond (eqb i j) (2 ^ b) 0) ∙ ap (λ (x : ℕ). bitOf (getD u j 0) q ⊕ x) (there (eqb i j))
+      ap (λ (x : ℕ). bitOf x q) (flip-word j) ∙ xor-bit q (getD u j 0) (cond (eqb i j) (2 ^ b) 0) ∙ ap (λ (x : ℕ). bitOf (getD u j 0) q xor x) (there (eqb i j))
     where
       there : (t : Bool) → bitOf (cond t (2 ^ b) 0) q ≡ one (t && eqb b q)
       there true = power-bit b q
       there false = ap (λ (x : ℕ). x % 2) (zero-div (2 ^ q))
 
-  flip-from : (w n : ℕ) → bitFrom (flipped u i b) w n ≡ bitFrom u w n ⊕ one (sameBit i b w n)
+  flip-from : (w n : ℕ) → bitFrom (flipped u i b) w n ≡ bitFrom u w n xor one (sameBit i b w n)
   unfolding bitFrom
   flip-from w n = flip-bit (w + n / 16) (15 - n % 16)
 
@@ -81,30 +81,30 @@ from-drop m u w n =
 -- ---- what the flip does to rows and columns
 
 abbrev pub rowFlip : ℕ → ℕ → ℕ → ℕ
-rowFlip i b r = one (sameBit i b 0 r) ⊕ xorAll 64 (λ c. one (sameBit i b (8 + 4 * r) c))
+rowFlip i b r = one (sameBit i b 0 r) xor xorAll 64 (λ c. one (sameBit i b (8 + 4 * r) c))
 
 abbrev pub columnFlip : ℕ → ℕ → ℕ → ℕ
-columnFlip i b c = one (sameBit i b 4 c) ⊕ xorAll 64 (λ r. one (sameBit i b (8 + 4 * r) c))
+columnFlip i b c = one (sameBit i b 4 c) xor xorAll 64 (λ r. one (sameBit i b (8 + 4 * r) c))
 
 module _ (u : List ℕ) (i b : ℕ) (h : i < length u) where
-  flip-data : (w n : ℕ) → bitFrom (drop 8 (flipped u i b)) w n ≡ bitFrom (drop 8 u) w n ⊕ one (sameBit i b (8 + w) n)
+  flip-data : (w n : ℕ) → bitFrom (drop 8 (flipped u i b)) w n ≡ bitFrom (drop 8 u) w n xor one (sameBit i b (8 + w) n)
   flip-data w n =
-      from-drop 8 (flipped u i b) w n ∙ flip-from u i b h (8 + w) n ∙ ap (λ (x : ℕ). x ⊕ one (sameBit i b (8 + w) n)) (sym (from-drop 8 u w n))
+      from-drop 8 (flipped u i b) w n ∙ flip-from u i b h (8 + w) n ∙ ap (λ (x : ℕ). x xor one (sameBit i b (8 + w) n)) (sym (from-drop 8 u w n))
 
-  pub flip-row : (r : ℕ) → rowDiffers (flipped u i b) r ≡ rowDiffers u r ⊕ rowFlip i b r
+  pub flip-row : (r : ℕ) → rowDiffers (flipped u i b) r ≡ rowDiffers u r xor rowFlip i b r
   unfolding rowDiffers rowParity
   flip-row r =
       let f : ℕ → ℕ = bitFrom (drop 8 u) (4 * r) in
       let g : ℕ → ℕ = λ c. one (sameBit i b (8 + 4 * r) c) in
-      ap₂ _⊕_ (flip-from u i b h 0 r) (xor-cong 64 (λ c _. flip-data (4 * r) c) ∙ xor-add 64 f g)
+      ap₂ _xor_ (flip-from u i b h 0 r) (xor-cong 64 (λ c _. flip-data (4 * r) c) ∙ xor-add 64 f g)
       ∙ xor-swap (bitFrom u 0 r) (one (sameBit i b 0 r)) (xorAll 64 f) (xorAll 64 g)
 
-  pub flip-column : (c : ℕ) → columnDiffers (flipped u i b) c ≡ columnDiffers u c ⊕ columnFlip i b c
+  pub flip-column : (c : ℕ) → columnDiffers (flipped u i b) c ≡ columnDiffers u c xor columnFlip i b c
   unfolding columnDiffers columnParity
   flip-column c =
       let f : ℕ → ℕ = λ r. bitFrom (drop 8 u) (4 * r) c in
       let g : ℕ → ℕ = λ r. one (sameBit i b (8 + 4 * r) c) in
-      ap₂ _⊕_ (flip-from u i b h 4 c) (xor-cong 64 (λ r _. flip-data (4 * r) c) ∙ xor-add 64 f g)
+      ap₂ _xor_ (flip-from u i b h 4 c) (xor-cong 64 (λ r _. flip-data (4 * r) c) ∙ xor-add 64 f g)
       ∙ xor-swap (bitFrom u 4 c) (one (sameBit i b 4 c)) (xorAll 64 f) (xorAll 64 g)
 
 -- ---- the parity words hold the parity: in a unit as it is written nothing differs
@@ -164,8 +164,8 @@ unit-length d = omega arith
 
 pub no-row : (d : List ℕ) (r : ℕ) → r < 64 → rowDiffers (unitOf d) r ≡ 0
 unfolding rowDiffers unitOf
-no-row d r h = ap₂ _⊕_ (row-held d d r h) (ap (λ (s : List ℕ). rowParity s r) (unit-data d)) ∙ xor-self (rowParity d r)
+no-row d r h = ap₂ _xor_ (row-held d d r h) (ap (λ (s : List ℕ). rowParity s r) (unit-data d)) ∙ xor-self (rowParity d r)
 
 pub no-column : (d : List ℕ) (c : ℕ) → c < 64 → columnDiffers (unitOf d) c ≡ 0
 unfolding columnDiffers unitOf
-no-column d c h = ap₂ _⊕_ (column-held d d c h) (ap (λ (s : List ℕ). columnParity s c) (unit-data d)) ∙ xor-self (columnParity d c)
+no-column d c h = ap₂ _xor_ (column-held d d c h) (ap (λ (s : List ℕ). columnParity s c) (unit-data d)) ∙ xor-self (columnParity d c)

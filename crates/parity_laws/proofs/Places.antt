@@ -6,7 +6,7 @@ use native.Mathlib.Omega.{arith}
 use lib.Dec.{eqb}
 use lib.Bits.{xor-zero-l, xor-zero-r}
 use borrow.Author.Tests.{eq-eqb, ne-eqb, eqb-true}
-use Rattle.base.specs.Xor.{_⊕_}
+use Rattle.base.specs.Xor.{_xor_}
 use Rattle.base.proofs.Booleans.{and-parts, and-both}
 use Rattle.parity_rows.specs.Parity.{xorAll}
 use Rattle.parity_rows.proofs.Folds.{xor-cong, xor-none}
@@ -51,13 +51,13 @@ module _ (w b : ℕ) (hb : b < 16) where
 
   pub data-flip-row : (r : ℕ) → r < 64 → rowFlip (8 + w) b r ≡ spot (w / 4) r
   data-flip-row r h =
-      ap₂ _⊕_ (elsewhere-zero (8 + w) b 0 r (λ e. omega arith))
+      ap₂ _xor_ (elsewhere-zero (8 + w) b 0 r (λ e. omega arith))
       (xor-cong 64 (λ c p. ap one (data-place r c p)) ∙ xor-when 64 column (eqb (w / 4) r) (omega arith))
       ∙ xor-zero-l (spot (w / 4) r)
 
   pub data-flip-column : w / 4 < 64 → (c : ℕ) → c < 64 → columnFlip (8 + w) b c ≡ spot column c
   data-flip-column q c h =
-      ap₂ _⊕_ (elsewhere-zero (8 + w) b 4 c (λ e. omega arith))
+      ap₂ _xor_ (elsewhere-zero (8 + w) b 4 c (λ e. omega arith))
       (xor-cong 64 (λ r p. ap one (data-place r c h ∙ and-comm (eqb (w / 4) r) (eqb column c))) ∙ xor-when 64 (w / 4) (eqb column c) q)
       ∙ xor-zero-l (spot column c)
 
@@ -67,13 +67,13 @@ module _ (i b : ℕ) (hi : i < 8) (hb : b < 16) where
   parity-flip-leaves-data f n = xor-none 64 (λ j. one (sameBit i b (8 + f j) (n j))) (λ j. elsewhere-zero i b (8 + f j) (n j) (λ e. omega arith))
 
   pub row-parity-flip-row : i < 4 → (r : ℕ) → r < 64 → rowFlip i b r ≡ spot (16 * (i - 0) + (15 - b)) r
-  row-parity-flip-row h r p = ap₂ _⊕_ (parity-place i b 0 r (omega arith) hb) (parity-flip-leaves-data (λ c. 4 * r) (λ c. c)) ∙ xor-zero-r (spot (16 * (i - 0) + (15 - b)) r)
+  row-parity-flip-row h r p = ap₂ _xor_ (parity-place i b 0 r (omega arith) hb) (parity-flip-leaves-data (λ c. 4 * r) (λ c. c)) ∙ xor-zero-r (spot (16 * (i - 0) + (15 - b)) r)
 
   pub row-parity-flip-column : i < 4 → (c : ℕ) → c < 64 → columnFlip i b c ≡ 0
-  row-parity-flip-column h c p = ap₂ _⊕_ (elsewhere-zero i b 4 c (λ e. omega arith)) (parity-flip-leaves-data (λ r. 4 * r) (λ r. c))
+  row-parity-flip-column h c p = ap₂ _xor_ (elsewhere-zero i b 4 c (λ e. omega arith)) (parity-flip-leaves-data (λ r. 4 * r) (λ r. c))
 
   pub column-parity-flip-column : 4 ≤ i → (c : ℕ) → c < 64 → columnFlip i b c ≡ spot (16 * (i - 4) + (15 - b)) c
-  column-parity-flip-column h c p = ap₂ _⊕_ (parity-place i b 4 c h hb) (parity-flip-leaves-data (λ r. 4 * r) (λ r. c)) ∙ xor-zero-r (spot (16 * (i - 4) + (15 - b)) c)
+  column-parity-flip-column h c p = ap₂ _xor_ (parity-place i b 4 c h hb) (parity-flip-leaves-data (λ r. 4 * r) (λ r. c)) ∙ xor-zero-r (spot (16 * (i - 4) + (15 - b)) c)
 
   pub column-parity-flip-row : 4 ≤ i → (r : ℕ) → r < 64 → rowFlip i b r ≡ 0
-  column-parity-flip-row h r p = ap₂ _⊕_ (elsewhere-zero i b 0 r (λ e. omega arith)) (parity-flip-leaves-data (λ c. 4 * r) (λ c. c))
+  column-parity-flip-row h r p = ap₂ _xor_ (elsewhere-zero i b 0 r (λ e. omega arith)) (parity-flip-leaves-data (λ c. 4 * r) (λ c. c))

@@ -11,7 +11,7 @@ use lib.Bits.{xor-zero-l, xor-zero-r, xor-self}
 use lib.ListN.{length, getD, set, drop, length-set}
 use lib.Seq.{drop-set-lt, drop-set-add, getD-drop, getD-set-same, set-set, set-getD}
 use borrow.Author.Tests.{le-leb, lt-ltb, ltb-true, ltb-false}
-use Rattle.base.specs.Xor.{_⊕_}
+use Rattle.base.specs.Xor.{_xor_}
 use Rattle.base.specs.Size.{dataWidth}
 use Rattle.base_room.specs.Room.{put}
 use Rattle.base.proofs.XorLaws.{xor-assoc}
@@ -70,15 +70,15 @@ module _ (k x y p : ℕ) (h : p < 64) where
 
 flip-length : (i b : ℕ) (u : List ℕ) → length (flipped u i b) ≡ length u
 unfolding flipped
-flip-length i b u = length-set u i (getD u i 0 ⊕ 2 ^ b)
+flip-length i b u = length-set u i (getD u i 0 xor 2 ^ b)
 
 flip-twice : (w b : ℕ) (d : List ℕ) → w < length d → flipped (flipped d w b) w b ≡ d
 unfolding flipped
 flip-twice w b d h =
     let x = getD d w 0 in
-    ap (λ (y : ℕ). set (set d w (x ⊕ 2 ^ b)) w (y ⊕ 2 ^ b)) (getD-set-same d w (x ⊕ 2 ^ b) 0 h)
-    ∙ set-set d w (x ⊕ 2 ^ b) (x ⊕ 2 ^ b ⊕ 2 ^ b)
-    ∙ ap (set d w) (xor-assoc x (2 ^ b) (2 ^ b) ∙ ap (λ (y : ℕ). x ⊕ y) (xor-self (2 ^ b)) ∙ xor-zero-r x)
+    ap (λ (y : ℕ). set (set d w (x xor 2 ^ b)) w (y xor 2 ^ b)) (getD-set-same d w (x xor 2 ^ b) 0 h)
+    ∙ set-set d w (x xor 2 ^ b) (x xor 2 ^ b xor 2 ^ b)
+    ∙ ap (set d w) (xor-assoc x (2 ^ b) (2 ^ b) ∙ ap (λ (y : ℕ). x xor y) (xor-self (2 ^ b)) ∙ xor-zero-r x)
     ∙ set-getD d w 0
 
 -- what the judge says of a unit, and what it holds
@@ -122,10 +122,10 @@ module _ (d : List ℕ) (fits : Fits d) where
     damaged = flipped (unitOf d) i b
 
     rows-by-flip : (f : ℕ → ℕ) → ((r : ℕ) → r < 64 → rowFlip i b r ≡ f r) → (r : ℕ) → r < 64 → rowDiffers damaged r ≡ f r
-    rows-by-flip f e r h = flip-row (unitOf d) i b hi r ∙ ap (λ (x : ℕ). x ⊕ rowFlip i b r) (no-row d r h) ∙ xor-zero-l (rowFlip i b r) ∙ e r h
+    rows-by-flip f e r h = flip-row (unitOf d) i b hi r ∙ ap (λ (x : ℕ). x xor rowFlip i b r) (no-row d r h) ∙ xor-zero-l (rowFlip i b r) ∙ e r h
 
     columns-by-flip : (g : ℕ → ℕ) → ((c : ℕ) → c < 64 → columnFlip i b c ≡ g c) → (c : ℕ) → c < 64 → columnDiffers damaged c ≡ g c
-    columns-by-flip g e c h = flip-column (unitOf d) i b hi c ∙ ap (λ (x : ℕ). x ⊕ columnFlip i b c) (no-column d c h) ∙ xor-zero-l (columnFlip i b c) ∙ e c h
+    columns-by-flip g e c h = flip-column (unitOf d) i b hi c ∙ ap (λ (x : ℕ). x xor columnFlip i b c) (no-column d c h) ∙ xor-zero-l (columnFlip i b c) ∙ e c h
 
     finding-by-flip : (f g : ℕ → ℕ) → ((r : ℕ) → r < 64 → rowFlip i b r ≡ f r) → ((c : ℕ) → c < 64 → columnFlip i b c ≡ g c)
         → finding damaged ≡ fiveCases (sumAll 64 f) (sumAll 64 g) (firstOf 64 f) (firstOf 64 g) (length damaged - 8)
@@ -165,7 +165,7 @@ module _ (d : List ℕ) (fits : Fits d) where
           judges = judged-by-finding (flipped (unitOf d) w b) (parityBit w b) (damaged-length w b parity-in-unit) parity-flip-finding;
           holds =
               ap (λ (f : Finding). repaired f (drop 8 (flipped (unitOf d) w b))) parity-flip-finding
-              ∙ drop-set-lt 8 (unitOf d) w (getD (unitOf d) w 0 ⊕ 2 ^ b) hw ∙ unit-data d;
+              ∙ drop-set-lt 8 (unitOf d) w (getD (unitOf d) w 0 xor 2 ^ b) hw ∙ unit-data d;
         }
 
   -- a bit of data word w
@@ -186,8 +186,8 @@ module _ (d : List ℕ) (fits : Fits d) where
     data-flipped : drop 8 (flipped (unitOf d) (8 + w) b) ≡ flipped d w b
     unfolding flipped
     data-flipped =
-        drop-set-add 8 (unitOf d) w (getD (unitOf d) (8 + w) 0 ⊕ 2 ^ b)
-        ∙ ap₂ (λ (s : List ℕ) (x : ℕ). set s w (x ⊕ 2 ^ b)) (unit-data d) (sym (getD-drop 8 (unitOf d) w 0) ∙ ap (λ (s : List ℕ). getD s w 0) (unit-data d))
+        drop-set-add 8 (unitOf d) w (getD (unitOf d) (8 + w) 0 xor 2 ^ b)
+        ∙ ap₂ (λ (s : List ℕ) (x : ℕ). set s w (x xor 2 ^ b)) (unit-data d) (sym (getD-drop 8 (unitOf d) w 0) ∙ ap (λ (s : List ℕ). getD s w 0) (unit-data d))
 
     data-flip-repaired : Repaired (flipped (unitOf d) (8 + w) b) d 2 w b
     unfolding unitData

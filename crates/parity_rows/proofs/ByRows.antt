@@ -10,7 +10,7 @@ use lib.Pow.{high, low, shl-lt}
 use lib.Bits.{xor-zero-r, xor-shifted}
 use lib.Count.{ones}
 use lib.ListN.{length}
-use Rattle.base.specs.Xor.{_⊕_}
+use Rattle.base.specs.Xor.{_xor_}
 use Rattle.parity_rows.specs.declared.Sums.{Sums}
 use Rattle.parity_rows.specs.Parity.{xorAll, number, bitFrom, rowParity, columnParity, rowWord, columnWord, parityWords, sums, parities}
 use Rattle.parity_rows.specs.ByRows.{oneMore}
@@ -41,24 +41,24 @@ unfolding rowParity
 row-odd d r = odd-ones (bitFrom d (4 * r)) (from-lt d (4 * r)) 64
 
 -- one digit more below n digits
-next-digit : (m a b : ℕ) → b < 2 → a * 2 ^ suc m ⊕ b * 2 ^ m ≡ (a * 2 + b) * 2 ^ m
+next-digit : (m a b : ℕ) → b < 2 → a * 2 ^ suc m xor b * 2 ^ m ≡ (a * 2 + b) * 2 ^ m
 next-digit m a b h =
     xor-shifted a (suc m) (b * 2 ^ m) (subst (λ (k : ℕ). b * 2 ^ m < 2 ^ k) (one-add m) (shl-lt 1 m h))
     ∙ ap (λ (x : ℕ). a * x + b * 2 ^ m) (pow-suc 2 m ∙ mul-comm (2 ^ m) 2)
     ∙ ap (λ (x : ℕ). x + b * 2 ^ m) (sym (mul-assoc a 2 (2 ^ m)))
     ∙ sym (add-mul (a * 2) b (2 ^ m))
 
-next-place : (n a b : ℕ) → n < 64 → b < 2 → a * 2 ^ (64 - n) ⊕ b * 2 ^ (63 - n) ≡ (a * 2 + b) * 2 ^ (64 - suc n)
+next-place : (n a b : ℕ) → n < 64 → b < 2 → a * 2 ^ (64 - n) xor b * 2 ^ (63 - n) ≡ (a * 2 + b) * 2 ^ (64 - suc n)
 next-place n a b h bit =
     let p : 64 - n ≡ suc (63 - n) = omega arith in
     let q : 63 - n ≡ 64 - suc n = omega arith in
-    ap (λ (k : ℕ). a * 2 ^ k ⊕ b * 2 ^ (63 - n)) p ∙ next-digit (63 - n) a b bit ∙ ap (λ (k : ℕ). (a * 2 + b) * 2 ^ k) q
+    ap (λ (k : ℕ). a * 2 ^ k xor b * 2 ^ (63 - n)) p ∙ next-digit (63 - n) a b bit ∙ ap (λ (k : ℕ). (a * 2 + b) * 2 ^ k) q
 
 pub next-sums : (d : List ℕ) (n : ℕ) {s t : Sums} {w : ℕ} → n < 64 → s ≡ sumsOf d n → w ≡ rowOf d n → t ≡ oneMore s w n → t ≡ sumsOf d (n + 1)
 next-sums d n h p q r =
     r ∙ ap₂ (λ (s : Sums) (w : ℕ). oneMore s w n) p q
     ∙ ap₂ sums
-    (ap (λ (x : ℕ). number n (rowParity d) * 2 ^ (64 - n) ⊕ x * 2 ^ (63 - n)) (row-odd d n)
+    (ap (λ (x : ℕ). number n (rowParity d) * 2 ^ (64 - n) xor x * 2 ^ (63 - n)) (row-odd d n)
     ∙ next-place n (number n (rowParity d)) (rowParity d n) h (row-lt d n)
     ∙ ap (λ (x : ℕ). x * 2 ^ (64 - suc n)) (sym (number-more n (rowParity d))))
     (sym (xor-more n (rowOf d)))
@@ -83,7 +83,7 @@ enough-rows d n all enough =
     ∙ ap (λ (x : ℕ). number n (rowParity d) * 2 ^ (64 - n) + x) (number-none (64 - n) (λ i. rowParity d (n + i)) (λ i. past-odd d (n + i) (omega arith)))
     ∙ add-zero (number n (rowParity d) * 2 ^ (64 - n))))
     (sym (ap (λ (x : ℕ). xorAll x (rowOf d)) (sym m) ∙ xor-parts n (64 - n) (rowOf d)
-    ∙ ap (λ (x : ℕ). xorAll n (rowOf d) ⊕ x) (xor-none (64 - n) (λ i. rowOf d (n + i)) (λ i. past-row d (n + i) (omega arith)))
+    ∙ ap (λ (x : ℕ). xorAll n (rowOf d) xor x) (xor-none (64 - n) (λ i. rowOf d (n + i)) (λ i. past-row d (n + i) (omega arith)))
     ∙ xor-zero-r (xorAll n (rowOf d))))
 
 -- of all 64 rows

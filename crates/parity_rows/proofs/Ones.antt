@@ -4,7 +4,7 @@ use Prim.Native.Nat.{ℕ, zero, suc, _+_, _%_, _<_}
 use native.Mathlib.Nat.{not-suc-le-zero, le-of-suc-le-suc}
 use native.Mathlib.Omega.{arith}
 use lib.Count.{ones, onesIn, ones-cat}
-use Rattle.base.specs.Xor.{_⊕_}
+use Rattle.base.specs.Xor.{_xor_}
 use Rattle.parity_rows.specs.Parity.{xorAll, number}
 
 -- of a bit there are two cases
@@ -18,10 +18,10 @@ unfolding ones onesIn
 ones-bit = by-bit (λ x. ones x ≡ x) refl refl
 
 -- a bit more makes a sum odd or even
-more-odd : (m x : ℕ) → x < 2 → m % 2 ⊕ x ≡ (m + x) % 2
+more-odd : (m x : ℕ) → x < 2 → m % 2 xor x ≡ (m + x) % 2
 more-odd m x h =
     let e : (m % 2 + x) % 2 ≡ (m + x) % 2 = omega arith in
-    by-bit (λ n. n ⊕ x ≡ (n + x) % 2) (by-bit (λ y. 0 ⊕ y ≡ (0 + y) % 2) refl refl x h) (by-bit (λ y. 1 ⊕ y ≡ (1 + y) % 2) refl refl x h) (m % 2) (omega arith) ∙ e
+    by-bit (λ n. n xor x ≡ (n + x) % 2) (by-bit (λ y. 0 xor y ≡ (0 + y) % 2) refl refl x h) (by-bit (λ y. 1 xor y ≡ (1 + y) % 2) refl refl x h) (m % 2) (omega arith) ∙ e
 
 module _ (f : ℕ → ℕ) (bits : (i : ℕ) → f i < 2) where
   pub no-ones : ones (number 0 f) ≡ 0
@@ -36,4 +36,4 @@ module _ (f : ℕ → ℕ) (bits : (i : ℕ) → f i < 2) where
   unfolding xorAll
   odd-ones zero = ap (λ (x : ℕ). x % 2) no-ones
   odd-ones (suc n) =
-      ap (λ (x : ℕ). x % 2) (ones-more n) ∙ sym (more-odd (ones (number n f)) (f n) (bits n)) ∙ ap (λ (x : ℕ). x ⊕ f n) (odd-ones n)
+      ap (λ (x : ℕ). x % 2) (ones-more n) ∙ sym (more-odd (ones (number n f)) (f n) (bits n)) ∙ ap (λ (x : ℕ). x xor f n) (odd-ones n)

@@ -2,7 +2,7 @@
 -- they find the parity of `Parity`.
 use Prim.Native.Nat.{ℕ, _+_, _-_, _*_, _%_, _^_}
 use lib.Count.{ones}
-use Rattle.base.specs.Xor.{_⊕_}
+use Rattle.base.specs.Xor.{_xor_}
 use Rattle.parity_rows.specs.declared.Sums.{Sums}
 use Rattle.parity_rows.specs.Parity.{sums}
 
@@ -12,4 +12,4 @@ pack a b c d = ((a * 2 ^ 16 + b) * 2 ^ 16 + c) * 2 ^ 16 + d
 
 -- the sums with row r, which is w as one number
 abbrev pub oneMore : Sums → ℕ → ℕ → Sums
-oneMore s w r = sums (s .rows ⊕ ones w % 2 * 2 ^ (63 - r)) (s .columns ⊕ w)
+oneMore s w r = sums (s .rows xor ones w % 2 * 2 ^ (63 - r)) (s .columns xor w)

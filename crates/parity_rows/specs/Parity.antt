@@ -2,14 +2,14 @@
 use mathlib.Core.List.{List, [], _∷_}
 use Prim.Native.Nat.{ℕ, zero, suc, _+_, _-_, _*_, _/_, _%_}
 use lib.ListN.{getD}
-use Rattle.base.specs.Xor.{_⊕_}
+use Rattle.base.specs.Xor.{_xor_}
 use Rattle.base.specs.Number.{bitOf}
 use Rattle.parity_rows.specs.declared.Sums.{Sums}
 
--- f 0 ⊕ f 1 ⊕ .. ⊕ f (n - 1): of bits, 1 where an odd number of them are 1
+-- f 0 xor f 1 xor .. xor f (n - 1): of bits, 1 where an odd number of them are 1
 unfoldable pub xorAll : ℕ → (ℕ → ℕ) → ℕ
 xorAll zero f = 0
-xorAll (suc n) f = xorAll n f ⊕ f n
+xorAll (suc n) f = xorAll n f xor f n
 
 -- the number whose n binary digits are f 0, which is the top one, f 1, .., f (n - 1)
 unfoldable pub number : ℕ → (ℕ → ℕ) → ℕ

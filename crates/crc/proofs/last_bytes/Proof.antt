@@ -4,7 +4,7 @@ use Prim.Native.Nat.{ℕ, _*_, _%_, _-_}
 use native.Mathlib.Omega.{arith}
 use lib.ListN.{length, getD, drop}
 use borrow.Author.Needs.{needs}
-use Rattle.base.specs.Xor.{_⊕_}
+use Rattle.base.specs.Xor.{_xor_}
 use Rattle.base.proofs.Walk.{folded-one, folded-all}
 use Rattle.crc.specs.Crc.{crcBits, crcStep, crcBytes}
 use Rattle.crc.proofs.last_bytes.Statement.{statement}
@@ -30,7 +30,7 @@ loop-again c =
     let i = l .loop .i in
     let b : getD m i 0 * 256 % 65536 ≡ getD m i 0 * 256 = omega (arith, c .before .shared-slice-known2 .given i) in
     folded-one (crcStep 8) _ m _ _ (c .before .before .loop-test .taken)
-    (c .eight .ensures ∙ ap (λ (n : ℕ). crcBits 8 (l .loop .r ⊕ n)) b) (l .loop .inv)
+    (c .eight .ensures ∙ ap (λ (n : ℕ). crcBits 8 (l .loop .r xor n)) b) (l .loop .inv)
 
 returns : tie.Need-returns Inv-loop μ-loop
 returns c = folded-all (crcStep 8) _ (c .before .before .before .args .message .now) _ (c .loop-test .left) (c .before .loop .inv)

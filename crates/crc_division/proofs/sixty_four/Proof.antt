@@ -5,7 +5,7 @@ use Prim.Native.Nat.{ℕ, _*_, _/_, _%_, _^_, _<_}
 use lib.Bits.{xor-lt}
 use borrow.Author.Needs.{needs}
 use native.Mathlib.Omega.{arith}
-use Rattle.base.specs.Xor.{_⊕_}
+use Rattle.base.specs.Xor.{_xor_}
 use Rattle.base.proofs.Linear.{Linear, shr, shl-in, low, same, plus, after}
 use Rattle.crc_division.specs.Crc.{crcBit, crcStep}
 use Rattle.crc_division.specs.Blocks.{afterBlock}
@@ -22,19 +22,19 @@ right k x = x / 2 ^ k
 
 -- the code's lines
 abbrev y : ℕ → ℕ
-y x = left 48 x ⊕ right 16 (left 48 (right 16 x)) ⊕ left 16 (right 48 (left 16 x)) ⊕ right 48 x
+y x = left 48 x xor right 16 (left 48 (right 16 x)) xor left 16 (right 48 (left 16 x)) xor right 48 x
 
 abbrev e : ℕ → ℕ
-e x = x ⊕ right 4 x ⊕ right 11 x ⊕ right 16 x
+e x = x xor right 4 x xor right 11 x xor right 16 x
 
 abbrev f : ℕ → ℕ
-f x = x ⊕ right 8 x ⊕ right 22 x ⊕ right 32 x
+f x = x xor right 8 x xor right 22 x xor right 32 x
 
 abbrev g : ℕ → ℕ
-g x = x ⊕ right 16 x ⊕ right 44 x
+g x = x xor right 16 x xor right 44 x
 
 abbrev q : ℕ → ℕ
-q x = x ⊕ right 32 x
+q x = x xor right 32 x
 
 abbrev product : ℕ → ℕ
 product x = rest 64 (q (g (f (e (y x)))))
@@ -44,17 +44,17 @@ code x = product x % 2 ^ 16
 
 y-linear : Linear y
 y-linear =
-    and-shr (λ x. left 48 x ⊕ right 16 (left 48 (right 16 x)) ⊕ left 16 (right 48 (left 16 x)))
-    (plus (λ x. left 48 x ⊕ right 16 (left 48 (right 16 x))) (λ x. left 16 (right 48 (left 16 x)))
+    and-shr (λ x. left 48 x xor right 16 (left 48 (right 16 x)) xor left 16 (right 48 (left 16 x)))
+    (plus (λ x. left 48 x xor right 16 (left 48 (right 16 x))) (λ x. left 16 (right 48 (left 16 x)))
     (plus (left 48) (λ x. right 16 (left 48 (right 16 x))) (shl-in 64 48)
     (after (λ x. left 48 (right 16 x)) (right 16) (after (right 16) (left 48) (shr 16) (shl-in 64 48)) (shr 16)))
     (after (λ x. right 48 (left 16 x)) (left 16) (after (left 16) (right 48) (shl-in 64 16) (shr 48)) (shl-in 64 16))) 48
 
-two : (i j : ℕ) → Linear (λ x. x ⊕ right i x ⊕ right j x)
-two i j = and-shr (λ x. x ⊕ right i x) (and-shr (λ x. x) same i) j
+two : (i j : ℕ) → Linear (λ x. x xor right i x xor right j x)
+two i j = and-shr (λ x. x xor right i x) (and-shr (λ x. x) same i) j
 
-three : (i j k : ℕ) → Linear (λ x. x ⊕ right i x ⊕ right j x ⊕ right k x)
-three i j k = and-shr (λ x. x ⊕ right i x ⊕ right j x) (two i j) k
+three : (i j k : ℕ) → Linear (λ x. x xor right i x xor right j x xor right k x)
+three i j k = and-shr (λ x. x xor right i x xor right j x) (two i j) k
 
 code-linear : Linear code
 unfolding code
@@ -77,7 +77,7 @@ returns c =
     let r = c .before .args .r in
     let b = c .before .args .block in
     let small : r < 2 ^ 64 = omega arith in
-    c .low-word .ensures ∙ code-after-block (b ⊕ r) (xor-lt 64 b r (c .before .fits .block .fits) small)
+    c .low-word .ensures ∙ code-after-block (b xor r) (xor-lt 64 b r (c .before .fits .block .fits) small)
     ∙ sym (into-block r b (c .before .fits .r .fits))
 
 pub sixty-four-spec : {M : Type 1} → statement M

@@ -4,7 +4,7 @@ use mathlib.Core.Logic.{inl, inr}
 use native.Mathlib.Omega.{arith}
 use lib.ListN.{length}
 use lib.Count.{leading-le}
-use Rattle.base.specs.Xor.{_⊕_}
+use Rattle.base.specs.Xor.{_xor_}
 use Rattle.base_room.proofs.RoomLaws.{to-end}
 use Rattle.parity_rows.specs.Parity.{parities}
 use Rattle.parity.proofs.Judging.{between, outside, wrong-length, judged-by}
@@ -33,10 +33,10 @@ sub-five-cases c =
     omega (arith, between _ _ (length (stated .before .before .before .before .args .unit .now)) (stated .before .if1 .left) .0)
 
 cast-five-cases : tie.Need-cast-five-cases
-cast-five-cases c = omega (arith, leading-le 64 (c .before .before .before .before .before .before .stated .result .rows ⊕ c .before .before .before .before .parity .result .rows))
+cast-five-cases c = omega (arith, leading-le 64 (c .before .before .before .before .before .before .stated .result .rows xor c .before .before .before .before .parity .result .rows))
 
 cast-five-cases-2 : tie.Need-cast-five-cases-2
-cast-five-cases-2 c = omega (arith, leading-le 64 (c .before .before .before .before .before .before .stated .result .columns ⊕ c .before .before .before .before .parity .result .columns))
+cast-five-cases-2 c = omega (arith, leading-le 64 (c .before .before .before .before .before .before .stated .result .columns xor c .before .before .before .before .parity .result .columns))
 
 five-cases-requires : tie.Need-five-cases-requires
 five-cases-requires c κs = (leading-le 64 _, leading-le 64 _)

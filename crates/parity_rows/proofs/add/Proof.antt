@@ -8,7 +8,7 @@ use lib.Bits.{bitAnd, and-mask}
 use lib.Count.{ones}
 use lib.Pow.{shl-exact}
 use mir.Facts.{fits-mask}
-use Rattle.base.specs.Xor.{_⊕_}
+use Rattle.base.specs.Xor.{_xor_}
 use Rattle.parity_rows.specs.Parity.{sums}
 use borrow.Author.Needs.{needs}
 use Rattle.parity_rows.proofs.add.Statement.{statement}
@@ -23,7 +23,7 @@ cast-odd c = fits-mask (ones (c .args .w)) 1 tt
 returns : tie.Need-returns
 returns c =
     let a = c .before .before .args in
-    ap (λ (x : ℕ). sums (a .s .rows ⊕ x) (a .s .columns ⊕ a .w)) (placed (ones (a .w)) (a .r) (c .before .before .pre))
+    ap (λ (x : ℕ). sums (a .s .rows xor x) (a .s .columns xor a .w)) (placed (ones (a .w)) (a .r) (c .before .before .pre))
 
 pub add-spec : {M : Type 1} → statement M
 add-spec = tie.close (tie.spec cast-odd (λ c. search needs) (λ c. search needs) returns)

@@ -1,7 +1,7 @@
 -- `crc::held::begin` meets its contract: the register of what is held is linear in r, and leaves the powers of two as they are.
 use mathlib.Core.List.{[], _∷_}
 use Prim.Native.Nat.{ℕ, _*_, _/_, _%_, _^_}
-use Rattle.base.specs.Xor.{_⊕_}
+use Rattle.base.specs.Xor.{_xor_}
 use Rattle.base.proofs.Linear.{Linear, shr, shl-in, same, after}
 use Rattle.crc.specs.Crc.{crcBit, crcStep}
 use Rattle.crc_division.specs.Blocks.{afterBlock}
@@ -16,13 +16,13 @@ left k x = x * 2 ^ k % 2 ^ 64
 
 -- the code's lines
 abbrev a : ℕ → ℕ
-a x = x ⊕ left 5 x
+a x = x xor left 5 x
 
 abbrev q : ℕ → ℕ
-q x = a x ⊕ left 10 (a x) ⊕ left 12 x
+q x = a x xor left 10 (a x) xor left 12 x
 
 abbrev word : ℕ → ℕ
-word x = x ⊕ x / 2 ^ 4 ⊕ x / 2 ^ 11
+word x = x xor x / 2 ^ 4 xor x / 2 ^ 11
 
 abbrev top : ℕ → ℕ
 top x = left 48 (x / 2 ^ 48)
@@ -31,10 +31,10 @@ fourth : ℕ → ℕ
 fourth r = top (word (q (left 48 r)))
 
 q-linear : Linear q
-q-linear = and-shl (λ x. a x ⊕ left 10 (a x)) (after a (λ x. x ⊕ left 10 x) (and-shl (λ x. x) same 64 5) (and-shl (λ x. x) same 64 10)) 64 12
+q-linear = and-shl (λ x. a x xor left 10 (a x)) (after a (λ x. x xor left 10 x) (and-shl (λ x. x) same 64 5) (and-shl (λ x. x) same 64 10)) 64 12
 
 word-linear : Linear word
-word-linear = and-shr (λ x. x ⊕ x / 2 ^ 4) (and-shr (λ x. x) same 4) 11
+word-linear = and-shr (λ x. x xor x / 2 ^ 4) (and-shr (λ x. x) same 4) 11
 
 fourth-linear : Linear fourth
 unfolding fourth

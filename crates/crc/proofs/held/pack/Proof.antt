@@ -6,14 +6,14 @@ use native.Mathlib.Omega.{arith}
 use lib.Dec.{lit≤}
 use lib.Pow.{shl-exact, low, high}
 use lib.Bits.{xor-comm, xor-shifted}
-use Rattle.base.specs.Xor.{_⊕_}
+use Rattle.base.specs.Xor.{_xor_}
 use Rattle.crc_division.specs.Blocks.{lanes}
 use Rattle.crc.proofs.held.pack.Statement.{statement}
 use Rattle.crc.proofs.held.pack.Tie as tie
 
 -- one word more, at place k
-put : (k x y : ℕ) → k + 16 ≤ 64 → x < 2 ^ k → y < 65536 → x ⊕ y * 2 ^ k % 2 ^ 64 ≡ y * 2 ^ k + x
-put k x y p hx hy = ap (λ (n : ℕ). x ⊕ n) (shl-exact 16 k 64 hy (omega arith)) ∙ xor-comm x (y * 2 ^ k) ∙ xor-shifted y k x hx
+put : (k x y : ℕ) → k + 16 ≤ 64 → x < 2 ^ k → y < 65536 → x xor y * 2 ^ k % 2 ^ 64 ≡ y * 2 ^ k + x
+put k x y p hx hy = ap (λ (n : ℕ). x xor n) (shl-exact 16 k 64 hy (omega arith)) ∙ xor-comm x (y * 2 ^ k) ∙ xor-shifted y k x hx
 
 -- the word at place k of a sum
 word : (k over w under : ℕ) {n : ℕ} → n ≡ (over * 2 ^ 16 + w) * 2 ^ k + under → under < 2 ^ k → w < 65536 → n / 2 ^ k % 2 ^ 16 ≡ w
@@ -41,8 +41,8 @@ returns c =
     let hb : b < 65536 = c .fits .b .fits in
     let hc : w < 65536 = c .fits .c .fits in
     ap lanes
-    (ap (λ (x : ℕ). x ⊕ w * 2 ^ 32 % 2 ^ 64 ⊕ d * 2 ^ 48 % 2 ^ 64) (put 16 a b (lit≤ tt) ha hb)
-    ∙ ap (λ (x : ℕ). x ⊕ d * 2 ^ 48 % 2 ^ 64) (put 32 (b * 2 ^ 16 + a) w (lit≤ tt) (omega arith) hc)
+    (ap (λ (x : ℕ). x xor w * 2 ^ 32 % 2 ^ 64 xor d * 2 ^ 48 % 2 ^ 64) (put 16 a b (lit≤ tt) ha hb)
+    ∙ ap (λ (x : ℕ). x xor d * 2 ^ 48 % 2 ^ 64) (put 32 (b * 2 ^ 16 + a) w (lit≤ tt) (omega arith) hc)
     ∙ put 48 (w * 2 ^ 32 + (b * 2 ^ 16 + a)) d (lit≤ tt) (omega arith) (c .fits .d .fits))
     ∙ digits a b w d ha hb hc (c .fits .d .fits)
 
