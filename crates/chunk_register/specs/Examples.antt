@@ -1,15 +1,13 @@
--- The recording of FORMAT, "Listing program", in a register of three entries, and in one that is too small; the causes stand in the order of "Refusal numbers".
-use Prim.Native.Nat.{ℕ}
+-- The recording of FORMAT, "Listing program", in a register of three entries, and in one that is too small.
 use mathlib.Core.Path.{_≡_, refl}
-use mathlib.Core.Bool.{true}
-use mathlib.Core.List.{List, [], _∷_}
-use Rattle.base.specs.Refusal.{followsPaper, answer}
+use mathlib.Core.List.{[], _∷_}
+use Rattle.base.specs.Refusal.{answer}
 use Rattle.chunk.specs.declared.Entry.{Entry}
 use Rattle.chunk.specs.Header.{legalSize, legal, headed, ends, confirmed}
 use Rattle.chunk.specs.Reading.{entry, listed, skippedFrom}
 use Rattle.chunk_reading.specs.Counting.{surveyed}
 use Rattle.chunk.specs.Examples.{listing}
-use Rattle.chunk_register.specs.Register.{listCauses, listReply, listRoom}
+use Rattle.chunk_register.specs.Register.{listReply, listRoom}
 
 pub listingListed : (a b c : Entry)
     → (listReply 0x5AF3 listing 3 ≡ surveyed 0 2 1) × (listRoom 0x5AF3 listing (a ∷ b ∷ c ∷ []) ≡ entry 1 0x2009 ∷ entry 12 0x8020 ∷ c ∷ [])
@@ -19,6 +17,3 @@ listingListed a b c = (refl, refl)
 pub listingRefused : (a : Entry) → (listReply 0x5AF3 listing 1 ≡ surveyed 3 0 0) × (listRoom 0x5AF3 listing (a ∷ []) ≡ a ∷ [])
 unfolding listReply listRoom answer listed skippedFrom confirmed ends headed legal legalSize
 listingRefused a = (refl, refl)
-
-pub order : (sync : ℕ) (ws : List ℕ) (entries : ℕ) → followsPaper (listCauses sync ws entries) ≡ true
-order sync ws entries = refl

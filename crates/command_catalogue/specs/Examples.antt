@@ -1,14 +1,9 @@
--- The judgement of what is no catalogue and no mode, and the order of the causes, by computation.
-use Prim.Native.Nat.{ℕ}
+-- The judgement of what is no catalogue and no mode, by computation.
 use mathlib.Core.Path.{_≡_, refl}
-use mathlib.Core.Bool.{true}
-use mathlib.Core.List.{List, []}
-use Rattle.base.specs.Refusal.{verdict, wrongArgument, followsPaper}
+use mathlib.Core.List.{[]}
+use Rattle.base.specs.Refusal.{verdict, wrongArgument}
 use Rattle.command_catalogue.specs.Table.{dcixs, c1xs, standby, table, permits}
 use Rattle.command_catalogue.specs.Rules.{judgeCauses}
-
-order : (catalogue mode t qualifier address data' : ℕ) (xs : List ℕ) → followsPaper (judgeCauses catalogue mode t qualifier address data' xs) ≡ true
-order catalogue mode t qualifier address data' xs = refl
 
 -- SUBMODE, qualifier 3: catalogue 2 has it, and 9 is no catalogue
 submode : verdict (judgeCauses c1xs standby 9 3 0 0 []) ≡ 0

@@ -1,18 +1,14 @@
--- FORMAT, "Commands": whole commands, read, by computation; and the order of the causes. The examples 10 and 11 stand in `promises`.
+-- FORMAT, "Commands": whole commands, read, by computation. The examples 10 and 11 stand in `promises`.
 use Prim.Native.Nat.{ℕ}
 use mathlib.Core.Path.{_≡_, refl}
-use mathlib.Core.Bool.{true}
-use mathlib.Core.List.{List, []}
+use mathlib.Core.List.{[]}
 use lib.ListN.{replicate}
-use Rattle.base.specs.Refusal.{answer, wrongType, wrongField, followsPaper}
+use Rattle.base.specs.Refusal.{answer, wrongType, wrongField}
 use Rattle.crc.specs.Crc.{crcBit, crcStep}
 use Rattle.command_catalogue.specs.Table.{dcixs, c1xs, emergency, standby, operating, table, permits}
 use Rattle.command.specs.declared.Fields.{Fields}
 use Rattle.command.specs.Layout.{commandBytes}
-use Rattle.command_reading.specs.Reading.{readCauses, refused, given, readReply}
-
-order : (catalogue mode : ℕ) (bs : List ℕ) → followsPaper (readCauses catalogue mode bs) ≡ true
-order catalogue mode bs = refl
+use Rattle.command_reading.specs.Reading.{refused, given, readReply}
 
 abbrev pub fields : ℕ → ℕ → ℕ → Fields
 fields t qualifier data' = record { sequence = 5; «command_type» = t; qualifier = qualifier; address = 0; «data» = data' }

@@ -1,2 +1,1 @@
 pub mod Checksums
-pub mod Examples

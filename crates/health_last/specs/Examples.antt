@@ -1,10 +1,9 @@
 -- Worked examples, by computation: a science recording of one health chunk, and a health recording of two packets.
 use mathlib.Core.Path.{_≡_, refl}
-use mathlib.Core.Bool.{true}
 use mathlib.Core.List.{List, [], _∷_, _++_}
 use Prim.Native.Nat.{ℕ}
 use lib.ListN.{replicate}
-use Rattle.base.specs.Refusal.{answer, followsPaper}
+use Rattle.base.specs.Refusal.{answer}
 use Rattle.crc.specs.Crc.{crcBit, crcStep}
 use Rattle.chunk.specs.Header.{legalSize, legal, headed, ends, confirmed}
 use Rattle.chunk.specs.Reading.{listed}
@@ -12,7 +11,7 @@ use Rattle.health.specs.Packet.{bodyWidth, packetCrc, soundPacket}
 use Rattle.health.specs.Writing.{writtenCrc, packetFrom}
 use Rattle.health_last.specs.declared.Place.{Place}
 use Rattle.health_last.specs.Packets.{packetPlaces, chunkPlaces, placesOf, soundOf, lastWhere}
-use Rattle.health_last.specs.Last.{place, refused, lastCauses, lastPlaceReply}
+use Rattle.health_last.specs.Last.{place, refused, lastPlaceReply}
 
 -- a packet of this type
 packet : ℕ → List ℕ
@@ -36,6 +35,3 @@ other = refl
 unlisted : (asked (packet 4) [] ≡ refused 2) × (asked (packet 4) (packet 4 ++ packet 4) ≡ place 0 2 32)
 unfolding asked packet lastPlaceReply answer lastWhere packetPlaces chunkPlaces placesOf soundOf soundPacket packetCrc writtenCrc crcBit crcStep listed confirmed headed ends legal legalSize
 unlisted = (refl, refl)
-
-order : (sync : ℕ) (science : List ℕ) (t : ℕ) (health : List ℕ) → followsPaper (lastCauses sync science health t) ≡ true
-order sync science t health = refl

@@ -1,2 +1,1 @@
 pub mod Observation
-pub mod Examples

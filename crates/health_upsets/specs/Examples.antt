@@ -1,10 +1,8 @@
 -- Worked examples, by computation.
 use mathlib.Core.Path.{_≡_, refl}
-use mathlib.Core.Bool.{true}
-use mathlib.Core.List.{List, _∷_}
-use Prim.Native.Nat.{ℕ}
+use mathlib.Core.List.{_∷_}
 use lib.ListN.{replicate}
-use Rattle.base.specs.Refusal.{verdict, followsPaper}
+use Rattle.base.specs.Refusal.{verdict}
 use Rattle.crc.specs.Crc.{crcBit, crcStep}
 use Rattle.health.specs.Packet.{packetCrc}
 use Rattle.health.specs.Writing.{packetFrom, writtenCrc}
@@ -14,6 +12,3 @@ use Rattle.health_upsets.specs.Upsets.{upsetsCauses}
 spare : verdict (upsetsCauses (packetFrom 10 0 (0 ∷ 0xAB08 ∷ replicate 27 0))) ≡ 0
 unfolding packetCrc writtenCrc crcBit crcStep
 spare = refl
-
-order : (p : List ℕ) → followsPaper (upsetsCauses p) ≡ true
-order p = refl

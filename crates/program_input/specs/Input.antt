@@ -8,7 +8,7 @@ use lib.ListN.{length}
 use lib.Dec.{ltb, eqb}
 use Rattle.base.specs.Limit.{listingLimit}
 use Rattle.base.specs.Number.{word}
-use Rattle.base.specs.Refusal.{Causes, wrongLength, noRoom, verdict, followsPaper, answer, settled}
+use Rattle.base.specs.Refusal.{Causes, wrongLength, noRoom, verdict, answer, settled}
 use Rattle.base_room.specs.Room.{put}
 use Rattle.base.specs.declared.Written.{Written}
 
@@ -40,10 +40,6 @@ longest = refl
 
 too-long : wrongInput 65540 listingLimit ≡ true
 too-long = refl
-
--- the causes stand in the rules' order
-order : (n most m : ℕ) → followsPaper (wordsCauses n most m) ≡ true
-order n most m = refl
 
 -- the first four bytes of FORMAT's example
 first-words : wordsOf (0x5A ∷ 0xF3 ∷ 0x00 ∷ 0x07 ∷ []) ≡ 0x5AF3 ∷ 0x0007 ∷ []

@@ -1,12 +1,9 @@
 -- Two answers that are the definition's are one another's: this one law gives `Agree` of every function. And where the definition gives the refusal, so does
 -- whatever is tied to it; and the same of the number.
 use Prim.Native.Nat.{ℕ}
-use mathlib.Core.Path.{_≡_, refl, sym, ap, _∙_}
-use mathlib.Core.Bool.{Bool, true, false, cond}
+use mathlib.Core.Path.{_≡_, sym, ap, _∙_}
 use mathlib.Core.Option.{Option, none, some}
-use lib.Dec.{eqb}
-use borrow.Author.Tests.{eqb-true}
-use Rattle.base.specs.Refusal.{verdict, answer}
+use Rattle.base.specs.Refusal.{verdict}
 use Rattle.promises.specs.Ties.{
   Lifetimes,
   Arguments,
@@ -53,16 +50,6 @@ numbers c t n κs a x e p = alike (c .number κs a) (verdict (c .causes κs a)) 
 pub answers : (c : Call) → Accepting (c .function) → Tied (c .function) → Ordered c → DefinedSo c → NumberedSo c → Answers c
 answers c all t o r n =
     record { determined = determined (c .function) all t; ordered = o; refusing = refuses c t r; numbered = numbers c t n }
-
--- an answer has the number v, if the refusal by v has it and what is given has 0
-pub answer-number : {A : Type 0} (number : A → ℕ) (v : ℕ) (refused : ℕ → A) (given : A) → number (refused v) ≡ v → number given ≡ 0
-    → number (answer v refused given) ≡ v
-unfolding answer
-answer-number number v refused given r g = by-cases (eqb v 0) refl
-  where
-    by-cases : (b : Bool) → eqb v 0 ≡ b → number (cond b given (refused v)) ≡ v
-    by-cases true e = g ∙ sym (eqb-true v 0 e)
-    by-cases false e = r
 
 -- an equation for the reply and one for the room are one for the two together
 pub both : {A B : Type 0} {a b : A} {x y : B} → (a ≡ b) × (x ≡ y) → _≡_ {A = A × B} (a, x) (b, y)

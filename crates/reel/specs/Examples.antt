@@ -1,22 +1,17 @@
 -- FORMAT, "Reel": its examples, by computation.
 use mathlib.Core.Path.{_≡_, refl}
-use mathlib.Core.Bool.{true}
 use mathlib.Core.List.{List, [], _∷_}
 use Prim.Native.Nat.{ℕ}
-use Rattle.base.specs.Refusal.{followsPaper, answer}
+use Rattle.base.specs.Refusal.{answer}
 use Rattle.crc.specs.Crc.{crcBit, crcStep}
 use Rattle.chunk.specs.Header.{legalSize, legal, headed, ends, confirmed}
 use Rattle.chunk.specs.Reading.{listed}
 use Rattle.reel.specs.Layout.{indexWords, tailWords, reelOf, reelMost}
-use Rattle.reel.specs.Reading.{sameWords, trailerAgrees, indexAgrees, readCauses, readReply, told, refused}
+use Rattle.reel.specs.Reading.{sameWords, trailerAgrees, indexAgrees, readReply, told, refused}
 
 -- a length outside 4 to 38,728 is refused
 longest : reelMost ≡ 38728
 longest = refl
-
--- the causes stand in the order of "Refusal numbers"
-read-order : (sync : ℕ) (r : List ℕ) → followsPaper (readCauses sync r) ≡ true
-read-order sync r = refl
 
 -- an empty recording: no entries, n 0, their CRC, and 1
 empty : reelOf 0x5AF3 [] ≡ 0 ∷ 0 ∷ 0x84C0 ∷ 1 ∷ []

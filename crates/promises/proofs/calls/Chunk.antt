@@ -1,7 +1,7 @@
 -- Each contract is the tie itself; each refusal is the first arm of `answer`, and the number stands in both arms.
 use mathlib.Core.Path.{refl}
 use Rattle.base.specs.Refusal.{settled}
-use Rattle.base.proofs.Refused.{answer-no, settled-refusal}
+use Rattle.base.proofs.Refused.{answer-no, settled-refusal, answer-number}
 use Rattle.chunk_reading.specs.declared.Survey.{Survey}
 use Rattle.chunk_reading.specs.declared.Heading.{Heading}
 use Rattle.chunk_writing.specs.Writing.{writeRoom}
@@ -9,7 +9,7 @@ use Rattle.chunk_outline.specs.declared.Runs.{Runs}
 use Rattle.chunk_outline.specs.Outline.{outlineReply}
 use Rattle.promises.specs.Ties.{Determined, Answers}
 use Rattle.promises.specs.calls.Chunk as calls
-use Rattle.promises.proofs.Ties.{determined, answers, answer-number, both}
+use Rattle.promises.proofs.Ties.{determined, answers, both}
 
 pub size-of : Determined calls.sizeOf
 size-of = determined calls.sizeOf (λ κs a. tt) λ κs a x e p. p
@@ -38,7 +38,7 @@ count = determined calls.count (λ κs a. tt) λ κs a x e p. p
 pub survey : Answers calls.survey
 survey =
     answers calls.survey (λ κs a. tt) (λ κs a x e p. p) (λ κs a. refl) (λ κs a h. answer-no _ _ _ h)
-    λ κs a. answer-number (λ (x : Survey). x .refusal) _ _ _ refl refl
+    λ κs a. answer-number (λ (x : Survey). x .refusal) _ _ _ refl (λ z. refl)
 
 pub is-listed : Determined calls.isListed
 is-listed = determined calls.isListed (λ κs a. tt) λ κs a x e p. p
@@ -46,7 +46,7 @@ is-listed = determined calls.isListed (λ κs a. tt) λ κs a x e p. p
 pub at : Answers calls.at
 at =
     answers calls.at (λ κs a. tt) (λ κs a x e p. p) (λ κs a. refl) (λ κs a h. answer-no _ _ _ h)
-    λ κs a. answer-number (λ (x : Heading). x .refusal) _ _ _ refl refl
+    λ κs a. answer-number (λ (x : Heading). x .refusal) _ _ _ refl (λ z. refl)
 
 pub payload : Answers calls.payload
 payload = answers calls.payload (λ κs a. tt) (λ κs a x e p. p) (λ κs a. refl) (λ κs a h. answer-no _ _ _ h) λ κs a. tt
@@ -61,4 +61,4 @@ pub outline : Answers calls.outline
 unfolding outlineReply
 outline =
     answers calls.outline (λ κs a. tt) (λ κs a x e p. p) (λ κs a. refl) (λ κs a h. answer-no _ _ _ h)
-    λ κs a. answer-number (λ (x : Runs). x .refusal) _ _ _ refl refl
+    λ κs a. answer-number (λ (x : Runs). x .refusal) _ _ _ refl (λ z. refl)

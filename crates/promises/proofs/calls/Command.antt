@@ -1,13 +1,13 @@
 -- Each contract is the tie itself; each refusal is the first arm of `answer`, and the number stands in both arms.
 use mathlib.Core.Path.{refl}
-use Rattle.base.proofs.Refused.{answer-no}
+use Rattle.base.proofs.Refused.{answer-no, answer-number}
 use Rattle.command_reading.specs.declared.Command.{Command}
 use Rattle.command_reading.specs.Reading as reading
 use Rattle.command_writing.specs.declared.Sent.{Sent}
 use Rattle.command_writing.specs.Writing as writing
 use Rattle.promises.specs.Ties.{Determined, Answers}
 use Rattle.promises.specs.calls.Command as calls
-use Rattle.promises.proofs.Ties.{determined, answers, answer-number, both}
+use Rattle.promises.proofs.Ties.{determined, answers, both}
 
 pub judge : Answers calls.judge
 judge = answers calls.judge (λ κs a. tt) (λ κs a x e p. p) (λ κs a. refl) (λ κs a h. refl) λ κs a. refl
@@ -28,7 +28,7 @@ pub read : Answers calls.read
 unfolding reading.readReply reading.given
 read =
     answers calls.read (λ κs a. tt) (λ κs a x e p. p) (λ κs a. refl) (λ κs a h. answer-no _ _ _ h)
-    λ κs a. answer-number (λ (x : Command). x .refusal) _ _ _ refl refl
+    λ κs a. answer-number (λ (x : Command). x .refusal) _ _ _ refl (λ z. refl)
 
 pub further : Answers calls.further
 unfolding reading.furtherReply
@@ -38,4 +38,4 @@ pub write : Answers calls.write
 unfolding writing.settled writing.writeReply writing.writeRoom
 write =
     answers calls.write (λ κs a. tt) (λ κs a x e p. both p) (λ κs a. refl) (λ κs a h. both (answer-no _ _ _ h, answer-no _ _ _ h))
-    λ κs a. answer-number (λ (x : Sent). x .refusal) _ _ _ refl refl
+    λ κs a. answer-number (λ (x : Sent). x .refusal) _ _ _ refl (λ z. refl)

@@ -5,7 +5,7 @@ use mathlib.Core.Bool.{Bool, true, false, cond}
 use mathlib.Core.List.{List, [], _∷_}
 use denote.Ref.{now}
 use Rattle.base.specs.Refusal.{settled}
-use Rattle.base.proofs.Refused.{answer-no, settled-refusal}
+use Rattle.base.proofs.Refused.{answer-no, settled-refusal, answer-number}
 use Rattle.health.specs.declared.packet.Packet.{Packet}
 use Rattle.health.specs.Reading.{readReply}
 use Rattle.health.specs.Writing.{writeRoom}
@@ -19,7 +19,7 @@ use Rattle.health_last.specs.Packets.{foundAt, nowhere, later, lastWhere}
 use Rattle.health_last.specs.Last as last
 use Rattle.promises.specs.Ties.{Determined, Answers}
 use Rattle.promises.specs.calls.Health as calls
-use Rattle.promises.proofs.Ties.{determined, answers, answer-number, both}
+use Rattle.promises.proofs.Ties.{determined, answers, both}
 
 pub judge : Answers calls.judge
 judge = answers calls.judge (λ κs a. tt) (λ κs a x e p. p) (λ κs a. refl) (λ κs a h. refl) λ κs a. refl
@@ -31,7 +31,7 @@ pub read-packet : Answers calls.readPacket
 unfolding readReply
 read-packet =
     answers calls.readPacket (λ κs a. tt) (λ κs a x e p. p) (λ κs a. refl) (λ κs a h. answer-no _ _ _ h)
-    λ κs a. answer-number (λ (x : Packet). x .refusal) _ _ _ refl refl
+    λ κs a. answer-number (λ (x : Packet). x .refusal) _ _ _ refl (λ z. refl)
 
 pub write-packet : Answers calls.writePacket
 unfolding settled writeRoom
@@ -43,7 +43,7 @@ pub observation : Answers calls.observation
 unfolding observationReply
 observation =
     answers calls.observation (λ κs a. tt) (λ κs a x e p. p) (λ κs a. refl) (λ κs a h. answer-no _ _ _ h)
-    λ κs a. answer-number (λ (x : Observed). x .refusal) _ _ _ refl refl
+    λ κs a. answer-number (λ (x : Observed). x .refusal) _ _ _ refl (λ z. refl)
 
 pub checksums-refusal : Answers calls.checksumsRefusal
 checksums-refusal = answers calls.checksumsRefusal (λ κs a. tt) (λ κs a x e p. p) (λ κs a. refl) (λ κs a h. refl) λ κs a. refl
@@ -56,7 +56,7 @@ pub upsets : Answers calls.upsets
 unfolding upsetsReply
 upsets =
     answers calls.upsets (λ κs a. tt) (λ κs a x e p. p) (λ κs a. refl) (λ κs a h. answer-no _ _ _ h)
-    λ κs a. answer-number (λ (x : UpsetTable). x .refusal) _ _ _ refl refl
+    λ κs a. answer-number (λ (x : UpsetTable). x .refusal) _ _ _ refl (λ z. refl)
 
 -- what is looked for is found at a place, or nowhere
 sought : {C : Type 0} (holds : ℕ → Bool) (ps : List ℕ) → (lastWhere holds ps ≡ nowhere → C) → ((p : ℕ) → lastWhere holds ps ≡ foundAt p → C) → C
@@ -81,7 +81,7 @@ pub last-place : Answers calls.lastPlace
 unfolding last.lastPlaceReply
 last-place =
     answers calls.lastPlace (λ κs a. tt) (λ κs a x e p. p) (λ κs a. refl) (λ κs a h. answer-no _ _ _ h)
-    λ κs a. answer-number (λ (x : Place). x .refusal) _ _ _ refl (shown-accepted _ _ _ _)
+    λ κs a. answer-number (λ (x : Place). x .refusal) _ _ _ refl (λ z. shown-accepted _ _ _ _)
 
 -- where nothing is shown, no part of a recording is
 no-part : (v : ℕ) (science health : List ℕ) → last.partAt (last.place v 0 0) science health ≡ []
