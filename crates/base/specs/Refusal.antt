@@ -21,7 +21,7 @@ noRoom = 3
 abbrev pub wrongArgument : ℕ
 wrongArgument = 4
 
--- the CRC of a command or health packet differs
+-- the CRC of a command, an event packet or a health packet differs
 abbrev pub wrongCrc : ℕ
 wrongCrc = 5
 
@@ -29,7 +29,7 @@ wrongCrc = 5
 abbrev pub wrongParity : ℕ
 wrongParity = 6
 
--- a type word or field has an unspecified value
+-- a type or a field has an unspecified value
 abbrev pub unspecified : ℕ
 unspecified = 7
 
@@ -37,7 +37,7 @@ unspecified = 7
 abbrev pub wrongType : ℕ
 wrongType = 8
 
--- command packet header wrong
+-- the header of a command or an event packet is wrong
 abbrev pub wrongHeader : ℕ
 wrongHeader = 9
 

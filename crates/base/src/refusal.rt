@@ -21,7 +21,7 @@ pub const UNSPECIFIED: u8 = 7;
 
 pub const COMMAND_TYPE: u8 = 8;
 
-pub const COMMAND_HEADER: u8 = 9;
+pub const HEADER: u8 = 9;
 
 pub const COMMAND_FIELD: u8 = 10;
 

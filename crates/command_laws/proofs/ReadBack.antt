@@ -1,67 +1,43 @@
 -- A command as the layout has it, read: the header and the CRC are right, the fields and the further bytes are those laid out. So the reader
 -- judges it as the writer judges the fields, and gives back what was written.
 use mathlib.Core.Path.{_≡_, refl, sym, ap, ap₂, _∙_}
-use mathlib.Core.Bool.{Bool, true, false, cond, not, _&&_, _||_, or-false, or-true, true≢false}
+use mathlib.Core.Bool.{Bool, true, false, cond, not, _||_, or-false, or-true, true≢false}
 use mathlib.Core.List.{List, [], _∷_, _++_}
-use Prim.Native.Nat.{ℕ, _+_, _-_, _*_, _/_, _%_, _<_, _≤_}
-use native.Mathlib.Nat.{add-zero}
+use Prim.Native.Nat.{ℕ, _+_, _-_, _%_, _<_, _≤_}
 use native.Mathlib.Omega.{arith}
-use lib.Dec.{eqb, ltb}
-use lib.ListN.{length, getD, take, drop, length-append}
-use lib.Seq.{take-at, getD-append-add}
-use borrow.Author.Tests.{eq-eqb, ne-eqb, lt-ltb, le-ltb, ltb-true, ltb-false}
+use lib.Dec.{ltb}
+use lib.ListN.{length, getD, take}
+use lib.Seq.{take-at}
+use borrow.Author.Tests.{lt-ltb, le-ltb, ltb-true}
 use Rattle.base.specs.Refusal.{Causes, verdict, answer, wrongArgument, wrongHeader, wrongCrc, noRoom}
 use Rattle.base.proofs.Refused.{spared, verdict-front, verdict-then, answer-yes}
 use Rattle.crc.specs.Crc.{crcStart, crcBytes}
+use Rattle.space_packet.specs.Layout.{word, bytesOf, laid, readOff}
+use Rattle.space_packet.specs.Header.{lengthField, headerWrong, crcWrong}
+use Rattle.space_packet.proofs.Headers as packet
+use Rattle.space_packet.proofs.Laid.{read-laid}
+use Rattle.space_packet.proofs.Headers.{sealed-length, crc-sound}
+use Rattle.space_packet.proofs.Replies.{packet-left}
 use Rattle.command.specs.declared.Fields.{Fields}
-use Rattle.command.specs.Layout.{widths, headOf, laid, readOff, word, bytesOf, numberAt, bodyBytes, commandBytes, fieldsIn, furtherIn}
+use Rattle.command.specs.Layout.{widths, packetId, headOf, bodyBytes, commandBytes, fieldsIn, furtherIn}
 use Rattle.command_catalogue.specs.Rules.{askedWrong}
 use Rattle.command.specs.Asking.{firstCauses, lastCauses}
-use Rattle.command_reading.specs.Reading.{headerWrong, crcWrong, readCauses, command, given, readReply, furtherReply}
-use Rattle.command_writing.specs.Writing.{countWrong, askCauses, settled, writeReply}
+use Rattle.command_reading.specs.Reading.{readCauses, command, given, readReply, furtherReply}
+use Rattle.command_writing.specs.Writing.{countWrong, askCauses, writeCauses, writeReply, writeRoom}
 use Rattle.command_reading.proofs.Replies as reading
-use Rattle.command_writing.specs.declared.Sent.{Sent}
 use Rattle.command_writing.proofs.Replies as writing
-use Rattle.command_writing.proofs.Replies.{command-fits, stored}
-use Rattle.base_room.proofs.RoomLaws.{put-fits}
+use Rattle.command_writing.proofs.Replies.{command-fits}
 use Rattle.command_laws.specs.Agree.{written, AcceptedAlike, JudgedAlike, GivenBack}
-use Rattle.command_laws.proofs.Laid.{word-of-bytes}
-
--- the CRC of any body with its CRC behind it
-crc-sound : (body : List ℕ) → crcWrong (body ++ bytesOf word (crcBytes crcStart body)) ≡ false
-crc-sound body =
-    let crc : ℕ = crcBytes crcStart body in
-    let bs : List ℕ = body ++ bytesOf word crc in
-    let n : length bs - 2 ≡ length body = omega (arith, length-append body (bytesOf word crc)) in
-    let high : getD bs (length bs - 2) 0 ≡ crc / 256 =
-    ap (λ (k : ℕ). getD bs k 0) (n ∙ sym (add-zero (length body))) ∙ getD-append-add body (bytesOf word crc) 0 0
-    in
-    let low : getD bs (length bs - 2 + 1) 0 ≡ crc % 256 =
-    ap (λ (k : ℕ). getD bs (k + 1) 0) n ∙ getD-append-add body (bytesOf word crc) 1 0
-    in
-    let stands : numberAt word bs (length bs - 2) ≡ crc = ap₂ (λ (h l : ℕ). h * 256 + l) high low ∙ word-of-bytes crc in
-    let covers : crcBytes crcStart (take (length bs - 2) bs) ≡ crc = ap (crcBytes crcStart) (take-at body (bytesOf word crc) (length bs - 2) (sym n)) in
-    ap not (eq-eqb _ _ (covers ∙ sym stands))
 
 -- what a head says, as the reader has it
 abbrev fieldsOf : List ℕ → Fields
 fieldsOf hs =
     record { sequence = getD hs 1 0 % 16384; «command_type» = getD hs 3 0; qualifier = getD hs 4 0; address = getD hs 5 0; «data» = getD hs 6 0 }
 
-abbrev headTest : List ℕ → ℕ → Bool
-headTest hs total = not (eqb (getD hs 0 0) 0x13EE && eqb (getD hs 1 0 / 16384) 3 && eqb (getD hs 2 0) (total - 7))
-
 module _ (f : Fields) where
   -- the head, read off
   head-read-off : (total : ℕ) (rest : List ℕ) → readOff widths (laid widths (headOf total f) ++ rest) 0 ≡ headOf total f
-  head-read-off total rest = cc (word-of-bytes (49152 + f .sequence), word-of-bytes (total - 7), word-of-bytes (f .address), word-of-bytes (f .«data»))
-
-  head-tests-count : (total : ℕ) → headTest (headOf total f) total ≡ countWrong f
-  head-tests-count total = simp (eq-eqb (total - 7) (total - 7) refl) (by (ltb (f .sequence) 16384) refl)
-    where
-      by : (b : Bool) → ltb (f .sequence) 16384 ≡ b → not (eqb ((49152 + f .sequence) / 16384) 3 && true) ≡ not b
-      by true e = simp (eq-eqb ((49152 + f .sequence) / 16384) 3 (omega (arith, ltb-true (f .sequence) 16384 e)))
-      by false e = simp (ne-eqb ((49152 + f .sequence) / 16384) 3 (λ z. omega (arith, z, ltb-false (f .sequence) 16384 e)))
+  head-read-off total rest = read-laid widths (headOf total f) [] rest refl
 
   module _ (xs : List ℕ) where
     abbrev crc : ℕ
@@ -69,11 +45,17 @@ module _ (f : Fields) where
 
     pub command-length : length (commandBytes f xs) ≡ 14 + length xs
     unfolding commandBytes
-    command-length = omega (arith, length-append (bodyBytes f xs) (bytesOf word crc))
+    command-length = omega (arith, sealed-length (bodyBytes f xs))
 
-    pub header-tests-count : headerWrong (commandBytes f xs) ≡ countWrong f
+    -- number i of the head
+    stands : (i : ℕ) → getD (readOff widths (commandBytes f xs) 0) i 0 ≡ getD (headOf (14 + length xs) f) i 0
     unfolding commandBytes
-    header-tests-count = ap₂ headTest (head-read-off (14 + length xs) (xs ++ bytesOf word crc)) command-length ∙ head-tests-count (14 + length xs)
+    stands i = ap (λ (hs : List ℕ). getD hs i 0) (head-read-off (14 + length xs) (xs ++ bytesOf word crc))
+
+    pub header-tests-count : headerWrong packetId (commandBytes f xs) ≡ countWrong f
+    header-tests-count =
+        packet.header-tests-count packetId (commandBytes f xs) (f .sequence) (omega (arith, command-length)) (stands 0) (stands 1)
+        (stands 2 ∙ ap lengthField (sym command-length))
 
     pub crc-is-right : crcWrong (commandBytes f xs) ≡ false
     unfolding commandBytes
@@ -104,7 +86,7 @@ module _ (c m : ℕ) (f : Fields) (xs : List ℕ) where
   -- as the layout has them
   laid-out-causes : verdict (readCauses c m (commandBytes f xs)) ≡ seen c m (14 + length xs) (countWrong f) false (fieldsIn (commandBytes f xs)) xs
   laid-out-causes =
-      ap (λ (n : ℕ). seen c m n (headerWrong (commandBytes f xs)) (crcWrong (commandBytes f xs)) (fieldsIn (commandBytes f xs)) (furtherIn (commandBytes f xs)))
+      ap (λ (n : ℕ). seen c m n (headerWrong packetId (commandBytes f xs)) (crcWrong (commandBytes f xs)) (fieldsIn (commandBytes f xs)) (furtherIn (commandBytes f xs)))
       (command-length f xs)
       ∙ ap (λ (b : Bool). seen c m (14 + length xs) b (crcWrong (commandBytes f xs)) (fieldsIn (commandBytes f xs)) (furtherIn (commandBytes f xs))) (header-tests-count f xs)
       ∙ ap (λ (b : Bool). seen c m (14 + length xs) (countWrong f) b (fieldsIn (commandBytes f xs)) (furtherIn (commandBytes f xs))) (crc-is-right f xs)
@@ -161,15 +143,12 @@ module _ (c m : ℕ) (f : Fields) (xs room : List ℕ) (z : writeReply c m f xs 
   command-fit : (f .sequence < 16384) × (14 + length xs ≤ 227) × (14 + length xs ≤ length room)
   command-fit = command-fits c m f xs room refl z
 
-  length-replied : writeReply c m f xs (length room) .length .0 ≡ 14 + length xs
-  unfolding writeReply settled
-  length-replied = ap (λ (r : Sent). r .length .0) (answer-yes _ _ _ (sym (writing.reply-number c m f xs room refl) ∙ z))
-
   -- what stands in the room
   pub written-is-command : written c m f xs room ≡ commandBytes f xs
+  unfolding writeReply writeRoom
   written-is-command =
-      ap₂ take length-replied (sym (stored c m f xs room refl z refl) ∙ put-fits (commandBytes f xs) 0 room (omega (arith, command-fit, command-length f xs)))
-      ∙ take-at (commandBytes f xs) (drop (0 + length (commandBytes f xs)) room) (14 + length xs) (command-length f xs)
+      packet-left (verdict (writeCauses c m f xs (length room))) (14 + length xs) (commandBytes f xs) room (command-length f xs) (command-fit .2)
+      (sym (writing.reply-number c m f xs room refl) ∙ z)
 
   reader-accepts : verdict (readCauses c m (commandBytes f xs)) ≡ 0
   reader-accepts = same-verdict c m f xs (command-fit .0) ∙ asked-rightly

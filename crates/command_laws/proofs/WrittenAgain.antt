@@ -1,18 +1,19 @@
 -- Bytes that the reader accepts are the layout of what it reads off: head, further bytes and CRC, one after the other.
 use mathlib.Core.Path.{_≡_, refl, sym, ap, ap₂, _∙_}
-use mathlib.Core.Bool.{true, _&&_, and-eq-true-iff}
-use mathlib.Core.List.{List, [], _∷_, _++_}
-use Prim.Native.Nat.{ℕ, _+_, _-_, _/_, _%_, _<_, _≤_}
+use mathlib.Core.List.{List, _++_}
+use Prim.Native.Nat.{ℕ, _+_, _-_, _/_, _%_, _≤_}
 use native.Mathlib.Nat.{mod-lt}
 use native.Mathlib.Omega.{arith}
-use lib.Dec.{eqb, lit<}
-use lib.ListN.{length, take, drop, take-append-drop, length-drop, drop-of-length-le}
+use lib.Dec.{lit<}
+use lib.ListN.{length, take, drop, take-append-drop, length-drop}
 use lib.Seq.{drop-drop, take-at, length-take-le}
-use borrow.Author.Tests.{eqb-true, not-false}
 use Rattle.base.specs.Refusal.{verdict}
 use Rattle.base.proofs.Refused.{Spared, spared, verdict-front, answer-yes}
-use Rattle.crc.specs.Crc.{crcStart, crcBytes}
-use Rattle.command.specs.Layout.{widths, headOf, laid, readOff, word, bytesOf, numberAt, bodyBytes, commandBytes, field, fieldsIn, furtherIn}
+use Rattle.space_packet.specs.Layout.{AreBytes, laid, readOff}
+use Rattle.space_packet.specs.Header.{sealed}
+use Rattle.space_packet.proofs.Laid.{laid-again}
+use Rattle.space_packet.proofs.Headers.{header-right, sealed-again}
+use Rattle.command.specs.Layout.{widths, headOf, bodyBytes, commandBytes, field, fieldsIn, furtherIn}
 use Rattle.command_catalogue.specs.Rules.{askedWrong}
 use Rattle.command.specs.Asking.{firstCauses}
 use Rattle.command.proofs.Verdicts.{total-within}
@@ -21,8 +22,7 @@ use Rattle.command_reading.specs.declared.Command.{Command}
 use Rattle.command_reading.specs.Reading.{packetCauses, readCauses, given, readReply, furtherReply}
 use Rattle.command_reading.proofs.Replies as reading
 use Rattle.command_writing.specs.Writing.{askCauses, writeReply}
-use Rattle.command_laws.specs.Agree.{AreBytes, WrittenAlike}
-use Rattle.command_laws.proofs.Laid.{laid-again}
+use Rattle.command_laws.specs.Agree.{WrittenAlike}
 use Rattle.command_laws.proofs.ReadBack.{same-verdict, writer-accepts, written-is-command}
 
 module _ (c m : ℕ) (bs : List ℕ) (bytes : AreBytes bs) (z : verdict (readCauses c m bs) ≡ 0) where
@@ -32,18 +32,8 @@ module _ (c m : ℕ) (bs : List ℕ) (bytes : AreBytes bs) (z : verdict (readCau
   no-cause-holds : Spared (readCauses c m bs)
   no-cause-holds = spared (readCauses c m bs) refl z
 
-  -- the header
-  header-right : eqb (field bs 0) 0x13EE && eqb (field bs 1 / 16384) 3 && eqb (field bs 2) (length bs - 7) ≡ true
-  header-right = not-false _ (no-cause-holds .1 .1 .0)
-
   header-fields : (field bs 0 ≡ 0x13EE) × (field bs 1 / 16384 ≡ 3) × (field bs 2 ≡ length bs - 7)
-  header-fields =
-      let both = and-eq-true-iff (eqb (field bs 0) 0x13EE && eqb (field bs 1 / 16384) 3) (eqb (field bs 2) (length bs - 7)) .0 header-right in
-      let both-first = and-eq-true-iff (eqb (field bs 0) 0x13EE) (eqb (field bs 1 / 16384) 3) .0 (both .0) in
-      (eqb-true _ _ (both-first .0), eqb-true _ _ (both-first .1), eqb-true _ _ (both .1))
-
-  crc-right : crcBytes crcStart (take (length bs - 2) bs) ≡ numberAt word bs (length bs - 2)
-  crc-right = eqb-true _ _ (not-false _ (no-cause-holds .1 .1 .1 .0))
+  header-fields = header-right 0x13EE bs (no-cause-holds .1 .1 .0)
 
   -- the three parts
   total-of-further : 14 + length (furtherIn bs) ≡ length bs
@@ -71,18 +61,9 @@ module _ (c m : ℕ) (bs : List ℕ) (bytes : AreBytes bs) (z : verdict (readCau
       ap (take (length bs - 2)) parts-in-a-row
       ∙ take-at (bodyBytes (fieldsIn bs) (furtherIn bs)) (drop (length bs - 2) bs) (length bs - 2) (omega (arith, total-of-further))
 
-  crc-laid : drop (length bs - 2) bs ≡ bytesOf word (numberAt word bs (length bs - 2))
-  crc-laid =
-      let past : length bs ≤ length bs - 2 + 2 = omega arith in
-      laid-again bs bytes (word ∷ []) (length bs - 2) (omega (arith, total-permitted))
-      ∙ ap (λ (l : List ℕ). bytesOf word (numberAt word bs (length bs - 2)) ++ l) (drop-of-length-le bs past)
-
   pub written-again : bs ≡ commandBytes (fieldsIn bs) (furtherIn bs)
   unfolding commandBytes
-  written-again =
-      parts-in-a-row
-      ∙ ap (λ (l : List ℕ). bodyBytes (fieldsIn bs) (furtherIn bs) ++ l)
-      (crc-laid ∙ ap (bytesOf word) (sym crc-right ∙ ap (crcBytes crcStart) body-laid))
+  written-again = sealed-again bs bytes (omega (arith, total-permitted)) (no-cause-holds .1 .1 .1 .0) ∙ ap sealed body-laid
 
   pub asked-again : verdict (askCauses c m (fieldsIn bs) (furtherIn bs)) ≡ 0
   asked-again = sym (same-verdict c m (fieldsIn bs) (furtherIn bs) (mod-lt (field bs 1) (lit< tt))) ∙ ap (λ (l : List ℕ). verdict (readCauses c m l)) (sym written-again) ∙ z

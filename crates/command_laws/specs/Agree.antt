@@ -4,10 +4,12 @@ use mathlib.Core.Path.{_≡_}
 use mathlib.Core.Bool.{cond}
 use mathlib.Core.List.{List}
 use lib.Dec.{ltb}
-use lib.ListN.{length, getD, take}
+use lib.ListN.{length, take}
 use Rattle.base.specs.Refusal.{answer, wrongArgument, noRoom}
+use Rattle.space_packet.specs.Layout.{AreBytes}
+use Rattle.space_packet.specs.Header.{sequenceCounts}
 use Rattle.command.specs.declared.Fields.{Fields}
-use Rattle.command.specs.Layout.{leastBytes, sequenceCounts, commandBytes}
+use Rattle.command.specs.Layout.{leastBytes, commandBytes}
 use Rattle.command_reading.specs.Reading.{command, readReply, furtherReply}
 use Rattle.command_writing.specs.Writing.{writeReply, writeRoom}
 
@@ -35,10 +37,6 @@ JudgedAlike = (catalogue mode : ℕ) (f : Fields) (xs room : List ℕ)
     × (f .sequence < sequenceCounts
     → writeReply catalogue mode f xs (length room) .refusal
     ≡ answer (readReply catalogue mode (commandBytes f xs) .refusal) (λ v. v) (cond (ltb (length room) (leastBytes + length xs)) noRoom 0))
-
--- each of them is a byte
-abbrev pub AreBytes : List ℕ → Type 0
-AreBytes bs = (i : ℕ) → getD bs i 0 < 256
 
 -- Bytes that the reader accepts are those that the writer writes for what it gives.
 abbrev pub WrittenAlike : Type 0

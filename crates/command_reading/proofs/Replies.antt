@@ -1,39 +1,30 @@
 -- The reader's reply on its two ways out: refused by the arguments or the total, or with the whole packet looked at.
 use mathlib.Core.Path.{_≡_, refl, sym, ap, _∙_}
-use mathlib.Core.Bool.{Bool, false, cond, not, _&&_}
+use mathlib.Core.Bool.{Bool, false, cond}
 use mathlib.Core.List.{List, []}
-use Prim.Native.Nat.{ℕ, _-_, _/_, _≤_}
+use Prim.Native.Nat.{ℕ, _-_, _≤_}
 use native.Mathlib.Omega.{arith}
-use lib.Dec.{eqb}
 use lib.ListN.{length, take, drop}
 use Rattle.base.specs.Refusal.{Causes, verdict, wrongHeader, wrongCrc}
 use Rattle.base.proofs.Refused.{verdict-front, cause-by-parts, verdict-kept, verdict-further, answer-no, answer-yes, answer-number}
-use Rattle.crc.specs.Crc.{crcStart, crcBytes}
+use Rattle.space_packet.specs.Header.{headerWrong, crcWrong}
 use Rattle.command.specs.declared.Fields.{Fields}
 use Rattle.command_reading.specs.declared.Command.{Command}
-use Rattle.command.specs.Layout.{packetId, word, numberAt, fieldsIn}
+use Rattle.command.specs.Layout.{packetId, fieldsIn}
 use Rattle.command_catalogue.specs.Rules.{askedWrong, judgeCauses}
 use Rattle.command.specs.Asking.{firstCauses, lastCauses}
 use Rattle.command.proofs.Verdicts.{argument-right, total-within, judged-last}
-use Rattle.command_reading.specs.Reading.{command, refused, headerWrong, crcWrong, packetCauses, readCauses, given, readReply, furtherReply}
-
--- ---- what stands in a packet
-
-pub header-by-fields : (bs : List ℕ) {l i s : ℕ} → l ≡ numberAt word bs 4 → i ≡ numberAt word bs 0 → s ≡ numberAt word bs 2
-    → not (eqb i packetId && eqb (s / 16384) 3 && eqb l (length bs - 7)) ≡ headerWrong bs
-header-by-fields bs el ei es = cc
+use Rattle.command_reading.specs.Reading.{command, refused, packetCauses, readCauses, given, readReply, furtherReply}
 
 -- ---- the verdict on a packet
 
-pub packet-by-causes : (c m : ℕ) (f : Fields) (bs : List ℕ) → askedWrong c m ≡ false → {k w o s r : ℕ} {h : Bool} → k ≡ crcBytes crcStart (take (length bs - 2) bs)
-    → o ≡ verdict (judgeCauses c m (f .«command_type») (f .qualifier) (f .address) (f .«data») (take (length bs - 2 - 12) (drop 12 bs))) → h ≡ headerWrong bs → w ≡ numberAt word bs (length bs - 2)
-    → s ≡ cond (not (eqb k w)) wrongCrc o → r ≡ cond h wrongHeader s → r ≡ verdict (packetCauses c m f bs)
-packet-by-causes c m f bs asked {k} {w} {o} {s} {r} {h} ek eo eh ew es er =
+pub packet-by-causes : (c m : ℕ) (f : Fields) (bs : List ℕ) → askedWrong c m ≡ false → {o s r : ℕ} {h k : Bool}
+    → o ≡ verdict (judgeCauses c m (f .«command_type») (f .qualifier) (f .address) (f .«data») (take (length bs - 2 - 12) (drop 12 bs)))
+    → h ≡ headerWrong packetId bs → k ≡ crcWrong bs → s ≡ cond k wrongCrc o → r ≡ cond h wrongHeader s → r ≡ verdict (packetCauses c m f bs)
+packet-by-causes c m f bs asked eo eh ek es er =
     let l : length bs - 2 - 12 ≡ length bs - 14 = omega arith in
-    let crc : not (eqb k w) ≡ crcWrong bs =
-    ap (λ (x : ℕ). not (eqb x w)) ek ∙ ap (λ (x : ℕ). not (eqb (crcBytes crcStart (take (length bs - 2) bs)) x)) ew
-    in
-    er ∙ cause-by-parts wrongHeader eh (es ∙ cause-by-parts wrongCrc crc (eo ∙ judged-last c m f (take (length bs - 2 - 12) (drop 12 bs)) asked ∙ ap (λ (n : ℕ). verdict (lastCauses c m f (take n (drop 12 bs)))) l))
+    let judged = eo ∙ judged-last c m f (take (length bs - 2 - 12) (drop 12 bs)) asked ∙ ap (λ (n : ℕ). verdict (lastCauses c m f (take n (drop 12 bs)))) l in
+    er ∙ cause-by-parts wrongHeader eh (es ∙ cause-by-parts wrongCrc ek judged)
 
 -- ---- the replies
 
@@ -58,10 +49,8 @@ module _ (c m : ℕ) (bs : List ℕ) where
     e = ev ∙ ap (λ (b : Bool). verdict (firstCauses b c (length bs))) ea
 
     -- what is left where neither the arguments nor the total are refused
-    pub asked-within : v ≡ 0 → (askedWrong c m ≡ false) × (14 ≤ length bs) × (length bs ≤ 227)
-    asked-within z =
-        let within = total-within (askedWrong c m) c (length bs) (sym e ∙ z) in
-        (argument-right (askedWrong c m) c (length bs) (sym e ∙ z), within .0, within .1)
+    pub asked-within : v ≡ 0 → (askedWrong c m ≡ false) × (14 ≤ length bs)
+    asked-within z = (argument-right (askedWrong c m) c (length bs) (sym e ∙ z), total-within (askedWrong c m) c (length bs) (sym e ∙ z) .0)
 
     -- refused by the arguments or the total
     pub refused-at-first : (v ≡ 0 → ⊥) → (f : Fields) {r : Command} → r ≡ given v f 0 → r ≡ readReply c m bs
@@ -86,8 +75,8 @@ module _ (c m : ℕ) (bs : List ℕ) where
     unfolding readReply
     reply-number = ap (λ (x : Command). x .refusal) e ∙ given-refusal _ _ _
 
-    pub accepted-within : r .refusal ≡ 0 → (14 ≤ length bs) × (length bs ≤ 227)
-    accepted-within z = total-within (askedWrong c m) c (length bs) (verdict-front early late (sym reply-number ∙ z))
+    pub accepted-within : r .refusal ≡ 0 → 14 ≤ length bs
+    accepted-within z = total-within (askedWrong c m) c (length bs) (verdict-front early late (sym reply-number ∙ z)) .0
 
     pub no-further : (r .refusal ≡ 0 → ⊥) → [] ≡ furtherReply c m bs
     unfolding furtherReply

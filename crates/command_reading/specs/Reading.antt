@@ -1,29 +1,18 @@
 -- FORMAT, "Commands": what the reader answers.
-use Prim.Native.Nat.{ℕ, _-_, _/_}
-use mathlib.Core.Bool.{Bool, not, _&&_}
+use Prim.Native.Nat.{ℕ, _-_}
 use mathlib.Core.List.{List, [], _∷_, _++_}
-use lib.ListN.{length, take}
-use lib.Dec.{eqb}
+use lib.ListN.{length}
 use Rattle.base.specs.Refusal.{Causes, verdict, answer, wrongHeader, wrongCrc}
-use Rattle.crc.specs.Crc.{crcStart, crcBytes}
+use Rattle.space_packet.specs.Header.{headerWrong, crcWrong}
 use Rattle.command.specs.declared.Fields.{Fields}
-use Rattle.command.specs.Layout.{leastBytes, packetId, sequenceTop, sequenceCounts, lengthField, word, numberAt, field, fieldsIn, furtherIn}
+use Rattle.command.specs.Layout.{leastBytes, packetId, fieldsIn, furtherIn}
 use Rattle.command_catalogue.specs.Rules.{askedWrong}
 use Rattle.command.specs.Asking.{firstCauses, lastCauses}
 use Rattle.command_reading.specs.declared.Command.{Command}
 
--- a wrong ID, sequence top bits or length field
-abbrev pub headerWrong : List ℕ → Bool
-headerWrong bs =
-    not (eqb (field bs 0) packetId && eqb (field bs 1 / sequenceCounts) sequenceTop && eqb (field bs 2) (lengthField (length bs)))
-
--- the CRC, the last two bytes, covers all before it
-abbrev pub crcWrong : List ℕ → Bool
-crcWrong bs = not (eqb (crcBytes crcStart (take (length bs - 2) bs)) (numberAt word bs (length bs - 2)))
-
 -- header, CRC, then the fields f that stand there
 abbrev pub packetCauses : ℕ → ℕ → Fields → List ℕ → Causes
-packetCauses catalogue mode f bs = (wrongHeader, headerWrong bs) ∷ (wrongCrc, crcWrong bs) ∷ lastCauses catalogue mode f (furtherIn bs)
+packetCauses catalogue mode f bs = (wrongHeader, headerWrong packetId bs) ∷ (wrongCrc, crcWrong bs) ∷ lastCauses catalogue mode f (furtherIn bs)
 
 abbrev pub readCauses : ℕ → ℕ → List ℕ → Causes
 readCauses catalogue mode bs = firstCauses (askedWrong catalogue mode) catalogue (length bs) ++ packetCauses catalogue mode (fieldsIn bs) bs

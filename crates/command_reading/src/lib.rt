@@ -5,21 +5,18 @@ use command::Fields;
 use command::HEAD;
 use command::ID;
 use command::LEAST;
-use command::SEQUENCE_COUNTS;
-use command::SEQUENCE_TOP;
-use command::word_at;
 use command_catalogue::asked_wrong;
 use command_catalogue::judge;
+use space_packet::crc_wrong;
+use space_packet::header_wrong;
 ghost use mathlib.Core.Path.{_≡_};
 ghost use mathlib.Core.Bool.{false};
 ghost use Prim.Native.Nat.{_≤_};
 ghost use lib.ListN.{length};
 ghost use Rattle.base.specs.Refusal.{verdict};
-ghost use Rattle.command_catalogue.specs.Table.{dcixs};
 ghost use Rattle.command_catalogue.specs.Rules.{askedWrong};
 ghost use Rattle.command.specs.Layout.{leastBytes};
-ghost use Rattle.command.specs.Asking.{mostBytes};
-ghost use Rattle.command_reading.specs.Reading.{headerWrong, packetCauses, given, readReply, furtherReply};
+ghost use Rattle.command_reading.specs.Reading.{packetCauses, given, readReply, furtherReply};
 
 // The reader's reply: the fields and the number of further bytes.
 pub struct Command {
@@ -52,24 +49,13 @@ fn give(verdict: u8, fields: Fields, further: Bytes) -> Command
     }
 }
 
-fn header_wrong(bytes: &[u8]) -> bool
-    requires { ⌜ leastBytes ≤ length (now bytes) ⌝ }
-    ensures { λ r. ⌜ r ≡ headerWrong (now (bytes .entry)) ⌝ }
-{
-    let size = word_at(bytes, Bytes(4)) as usize;
-    !((word_at(bytes, Bytes(0)) == ID)
-        & (word_at(bytes, Bytes(2)) / SEQUENCE_COUNTS == SEQUENCE_TOP)
-        & (size == bytes.len() - 7))
-}
-
 // The verdict on a packet of a permitted length, in a catalogue and a mode that there are: its header, its CRC, then its fields and further bytes.
 fn inspect(catalogue: u8, mode: u8, fields: Fields, bytes: &[u8]) -> u8
-    requires { ⌜ (askedWrong catalogue mode ≡ false) × (leastBytes ≤ length (now bytes)) × (length (now bytes) ≤ mostBytes dcixs) ⌝ }
+    requires { ⌜ (askedWrong catalogue mode ≡ false) × (leastBytes ≤ length (now bytes)) ⌝ }
     ensures { λ r. ⌜ r ≡ verdict (packetCauses catalogue mode fields (now (bytes .entry))) ⌝ }
 {
     let start = HEAD.0;
     let end = bytes.len() - 2;
-    let crc = crc::bytes(crc::START, &bytes[..end]);
     let others = judge(
         catalogue,
         mode,
@@ -80,9 +66,9 @@ fn inspect(catalogue: u8, mode: u8, fields: Fields, bytes: &[u8]) -> u8
         &bytes[start..end],
     );
     refusal::cause(
-        refusal::COMMAND_HEADER,
-        header_wrong(bytes),
-        refusal::cause(refusal::CRC, !(crc == word_at(bytes, Bytes(end))), others),
+        refusal::HEADER,
+        header_wrong(ID, bytes),
+        refusal::cause(refusal::CRC, crc_wrong(bytes), others),
     )
 }
 

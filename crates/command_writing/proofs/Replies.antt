@@ -1,36 +1,26 @@
--- The writer's reply on its three ways out, and the room: as it was on a refusal, else the head, the further bytes and the CRC end to end.
-use mathlib.Core.Path.{_≡_, refl, sym, ap, ap₂, _∙_}
+-- The writer's reply on its three ways out, and the room: as it was on a refusal, else the head and the further bytes, sealed.
+use mathlib.Core.Path.{_≡_, refl, sym, ap, _∙_}
 use mathlib.Core.Bool.{Bool, false, cond, _||_}
 use mathlib.Core.List.{List, [], _∷_, _++_}
 use Prim.Native.Nat.{ℕ, _+_, _≤_, _<_}
-use native.Mathlib.Omega.{arith}
 use lib.Dec.{ltb}
-use lib.ListN.{length, length-append}
+use lib.ListN.{length}
 use borrow.Author.Tests.{ltb-true, ltb-false, not-false}
 use Rattle.base.specs.Refusal.{Causes, verdict, noRoom}
-use Rattle.base.specs.Number.{highByte, lowByte}
 use Rattle.base_room.specs.Room.{put}
 use Rattle.base.proofs.Booleans.{or-false}
-use Rattle.base.proofs.Refused.{Spared, spared, verdict-front, verdict-kept, verdict-further, answer-no, answer-yes, answer-number}
-use Rattle.base_room.proofs.RoomLaws.{put-put}
-use Rattle.crc.specs.Crc.{crcStart, crcBytes}
-use Rattle.crc.proofs.Laws.{crc-append}
+use Rattle.base.proofs.Refused.{Spared, spared, verdict-front, verdict-kept, verdict-further, answer-no, answer-yes}
+use Rattle.space_packet.specs.declared.Sent.{Sent}
+use Rattle.space_packet.specs.Layout.{laid}
+use Rattle.space_packet.specs.Header.{sealed}
+use Rattle.space_packet.specs.Reply.{settled}
+use Rattle.space_packet.proofs.Replies.{settled-refusal, refused-alike}
 use Rattle.command.specs.declared.Fields.{Fields}
-use Rattle.command_writing.specs.declared.Sent.{Sent}
-use Rattle.command.specs.Layout.{widths, headOf, laid, word, bytesOf, commandBytes}
+use Rattle.command.specs.Layout.{widths, headOf, commandBytes}
 use Rattle.command_catalogue.specs.Rules.{askedWrong, judgeCauses}
 use Rattle.command.specs.Asking.{firstCauses, lastCauses}
 use Rattle.command.proofs.Verdicts.{argument-right, total-within, judged-last}
-use Rattle.command_writing.specs.Writing.{countWrong, writeCauses, sent, refused, settled, writeReply, writeRoom}
-
--- a refused reply is the same whatever would have been written
-refused-alike : (v m n : ℕ) → (v ≡ 0 → ⊥) → settled v m ≡ settled v n
-unfolding settled
-refused-alike v m n h = answer-no v _ _ h ∙ sym (answer-no v _ _ h)
-
-settled-refusal : (v n : ℕ) → settled v n .refusal ≡ v
-unfolding settled
-settled-refusal v n = answer-number (λ (r : Sent). r .refusal) v refused (sent 0 n) refl (λ z. refl)
+use Rattle.command_writing.specs.Writing.{countWrong, writeCauses, writeReply, writeRoom}
 
 -- ---- the reply
 
@@ -75,30 +65,6 @@ module _ (c m : ℕ) (f : Fields) (xs : List ℕ) (room : ℕ) where
 
 -- ---- the room
 
--- three writes end to end are one
-put-three : (s t u : List ℕ) (at : ℕ) (d : List ℕ) → at + length s + length t + length u ≤ length d
-    → put u (at + length s + length t) (put t (at + length s) (put s at d)) ≡ put (s ++ t ++ u) at d
-put-three s t u at d h =
-    let l : length (s ++ t) ≡ length s + length t = length-append s t in
-    let n : at + length s + length t ≡ at + length (s ++ t) = omega arith in
-    ap (put u (at + length s + length t)) (put-put s t at d (omega arith))
-    ∙ ap (λ (k : ℕ). put u k (put (s ++ t) at d)) n
-    ∙ put-put (s ++ t) u at d (omega arith)
-
--- head, further bytes and CRC are the command
-pub command-joined : (f : Fields) (xs room : List ℕ) → 14 + length xs ≤ length room → {h x y d : List ℕ} {k q a b : ℕ} → h ≡ laid widths (headOf (14 + length xs) f)
-    → k ≡ crcBytes crcStart h → q ≡ crcBytes k xs → a ≡ highByte q → b ≡ lowByte q → x ≡ put h 0 room → y ≡ put xs 12 x
-    → d ≡ put (a ∷ b ∷ []) (12 + length xs) y → d ≡ put (commandBytes f xs) 0 room
-unfolding commandBytes
-command-joined f xs room fit {h} {x} {y} {d} {k} {q} {a} {b} eh ek eq ea eb ex ey ed =
-    let s : List ℕ = laid widths (headOf (14 + length xs) f) in
-    let crc : q ≡ crcBytes crcStart (s ++ xs) = cc (crc-append 8 crcStart s xs) in
-    let t : List ℕ = bytesOf word (crcBytes crcStart (s ++ xs)) in
-    let et : a ∷ b ∷ [] ≡ t = ap₂ (λ (u v : ℕ). u ∷ v ∷ []) ea eb ∙ ap (bytesOf word) crc in
-    let g : x ≡ put s 0 room = cc in
-    ed ∙ ap (λ (l : List ℕ). put l (12 + length xs) y) et ∙ ap (put t (12 + length xs)) (ey ∙ ap (put xs 12) g)
-    ∙ put-three s xs t 0 room (omega arith)
-
 module _ (c m : ℕ) (f : Fields) (xs room : List ℕ) {r : Sent} (e : r ≡ writeReply c m f xs (length room)) where
   pub reply-number : r .refusal ≡ verdict (writeCauses c m f xs (length room))
   unfolding writeReply
@@ -120,6 +86,7 @@ module _ (c m : ℕ) (f : Fields) (xs room : List ℕ) {r : Sent} (e : r ≡ wri
       ltb-false _ _ (none .1 .1 .1 .1 .1 .1 .0),
     )
 
-    pub stored : {d : List ℕ} → d ≡ put (commandBytes f xs) 0 room → d ≡ writeRoom c m f xs room
-    unfolding writeRoom
-    stored is = is ∙ sym (answer-yes _ _ _ (sym reply-number ∙ z))
+    -- the head and the further bytes, sealed, are the command
+    pub stored : {h d : List ℕ} → h ≡ laid widths (headOf (14 + length xs) f) → d ≡ put (sealed (h ++ xs)) 0 room → d ≡ writeRoom c m f xs room
+    unfolding writeRoom commandBytes
+    stored eh is = is ∙ ap (λ (l : List ℕ). put (sealed (l ++ xs)) 0 room) eh ∙ sym (answer-yes _ _ _ (sym reply-number ∙ z))

@@ -6,11 +6,13 @@ use lib.ListN.{length}
 use lib.Dec.{ltb}
 use Rattle.base.specs.Refusal.{Causes, verdict, answer, noRoom}
 use Rattle.base_room.specs.Room.{put}
+use Rattle.space_packet.specs.declared.Sent.{Sent}
+use Rattle.space_packet.specs.Header.{sequenceCounts}
+use Rattle.space_packet.specs.Reply.{settled}
 use Rattle.command.specs.declared.Fields.{Fields}
-use Rattle.command.specs.Layout.{leastBytes, sequenceCounts, commandBytes}
+use Rattle.command.specs.Layout.{leastBytes, commandBytes}
 use Rattle.command_catalogue.specs.Rules.{askedWrong}
 use Rattle.command.specs.Asking.{firstCauses, lastCauses}
-use Rattle.command_writing.specs.declared.Sent.{Sent}
 
 -- a sequence count up to 16,383
 abbrev pub countWrong : Fields → Bool
@@ -24,16 +26,6 @@ askCauses catalogue mode f xs =
 -- and a room of so many bytes last
 abbrev pub writeCauses : ℕ → ℕ → Fields → List ℕ → ℕ → Causes
 writeCauses catalogue mode f xs room = askCauses catalogue mode f xs ++ (noRoom, ltb room (leastBytes + length xs)) ∷ []
-
-abbrev pub sent : ℕ → ℕ → Sent
-sent v n = record { refusal = v; length = record { 0 = n } }
-
-abbrev pub refused : ℕ → Sent
-refused v = sent v 0
-
--- a writer's reply: n bytes where nothing is refused, else the number and 0
-unfoldable pub settled : ℕ → ℕ → Sent
-settled v n = answer v refused (sent 0 n)
 
 unfoldable pub writeReply : ℕ → ℕ → Fields → List ℕ → ℕ → Sent
 writeReply catalogue mode f xs room = settled (verdict (writeCauses catalogue mode f xs room)) (leastBytes + length xs)

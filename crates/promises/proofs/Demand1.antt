@@ -7,7 +7,9 @@ use Rattle.promises.proofs.calls.Chunk as chunk
 use Rattle.promises.proofs.calls.Register as register
 use Rattle.promises.proofs.calls.Health as health
 use Rattle.promises.proofs.calls.Frame as frame
+use Rattle.promises.proofs.calls.SpacePacket as packet
 use Rattle.promises.proofs.calls.Command as command
+use Rattle.promises.proofs.calls.Event as event
 use Rattle.promises.proofs.calls.Reel as reel
 use Rattle.promises.proofs.calls.Program as program
 
@@ -40,6 +42,10 @@ calls =
       readCommand = command.read;
       further = command.further;
       writeCommand = command.write;
+      readHead = event.read-head;
+      readSlot = event.read-slot;
+      readEvent = event.read-event;
+      writeEvents = event.write-events;
       readReel = reel.read;
       writeReel = reel.write;
       inputWords = program.words;
@@ -85,9 +91,17 @@ blocks =
       soundAt = health.sound-at;
       starts = frame.starts;
       nextPiece = frame.next;
-      commandWordAt = command.word-at;
+      packetWordAt = packet.word-at;
+      longAt = packet.long-at;
+      headerWrong = packet.header-wrong;
+      crcWrong = packet.crc-wrong;
+      settleSent = packet.settle;
+      putSealed = packet.put-sealed;
       fieldsIn = command.fields-in;
       askedWrong = command.asked-wrong;
+      headIn = event.head-in;
+      slotIn = event.slot-in;
+      eventIn = event.event-in;
       outTo = program.to;
       append = program.append;
       appendNumber = program.append-number;

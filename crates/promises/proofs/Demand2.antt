@@ -13,6 +13,9 @@ use Rattle.health_laws.proofs.Lasts.{found-is-last}
 use Rattle.health_laws.proofs.Recordings.{last-in-science, none-in-science, last-in-health, none-in-health}
 use Rattle.command_laws.proofs.ReadBack.{given-back, accepted-alike, judged-alike}
 use Rattle.command_laws.proofs.WrittenAgain.{written-alike}
+use Rattle.event_laws.proofs.Written.{events-come-back}
+use Rattle.event_laws.proofs.Reread.{events-written-again}
+use Rattle.event_laws.proofs.Times.{times-are-exact, event-in-agrees}
 use Rattle.frame_laws.proofs.Written.{comes-back, observation-closes}
 use Rattle.frame_laws.proofs.Local.{frames-local, stray-after-gap}
 use Rattle.frame_laws.proofs.Pieces.{pieces-said}
@@ -49,6 +52,10 @@ demand-2 =
       accepted = accepted-alike;
       judged = judged-alike;
       rewritten = written-alike;
+      events = events-come-back;
+      eventsAgain = events-written-again;
+      times = times-are-exact;
+      eventIn = event-in-agrees;
       frame = comes-back;
       arrived = arrived-hold;
       closing = observation-closes;

@@ -9,7 +9,9 @@ use Rattle.promises.specs.calls.Chunk as chunk
 use Rattle.promises.specs.calls.Register as register
 use Rattle.promises.specs.calls.Health as health
 use Rattle.promises.specs.calls.Frame as frame
+use Rattle.promises.specs.calls.SpacePacket as packet
 use Rattle.promises.specs.calls.Command as command
+use Rattle.promises.specs.calls.Event as event
 use Rattle.promises.specs.calls.Reel as reel
 use Rattle.promises.specs.calls.Program as program
 
@@ -42,6 +44,10 @@ pub record Calls : Type 0 where
   pub readCommand : Answers command.read
   pub further : Answers command.further
   pub writeCommand : Answers command.write
+  pub readHead : Answers event.readHead
+  pub readSlot : Answers event.readSlot
+  pub readEvent : Answers event.readEvent
+  pub writeEvents : Answers event.writeEvents
   pub readReel : Answers reel.read
   pub writeReel : Answers reel.write
   pub inputWords : Answers program.words
@@ -86,9 +92,17 @@ pub record Total : Type 0 where
   pub soundAt : Determined health.soundAt
   pub starts : Determined frame.starts
   pub nextPiece : Determined frame.next
-  pub commandWordAt : Determined command.wordAt
+  pub packetWordAt : Determined packet.wordAt
+  pub longAt : Determined packet.longAt
+  pub headerWrong : Determined packet.headerWrong
+  pub crcWrong : Determined packet.crcWrong
+  pub settleSent : Determined packet.settle
+  pub putSealed : Determined packet.putSealed
   pub fieldsIn : Determined command.fieldsIn
   pub askedWrong : Determined command.askedWrong
+  pub headIn : Determined event.headIn
+  pub slotIn : Determined event.slotIn
+  pub eventIn : Determined event.eventIn
   pub outTo : Determined program.to
   pub append : Determined program.append
   pub appendNumber : Determined program.appendNumber

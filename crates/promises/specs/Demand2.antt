@@ -17,6 +17,9 @@ use Rattle.health_laws.specs.Modes.{Modes}
 use Rattle.health_laws.specs.Last.{FoundIsLast}
 use Rattle.health_laws.specs.Recordings.{LastInScience, NoneInScience, LastInHealth, NoneInHealth}
 use Rattle.command_laws.specs.Agree.{GivenBack, AcceptedAlike, JudgedAlike, WrittenAlike}
+use Rattle.event_laws.specs.Written.{EventsComeBack}
+use Rattle.event_laws.specs.Reread.{EventsWrittenAgain}
+use Rattle.event_laws.specs.Times.{TimesAreExact, EventInAgrees}
 use Rattle.frame_laws.specs.Written.{FramesComeBack, ObservationCloses}
 use Rattle.frame_laws.specs.Local.{FramesLocal, StrayAfterGap}
 use Rattle.frame_laws.specs.Pieces.{PiecesSaid}
@@ -73,6 +76,17 @@ pub record Demand2 : Type 0 where
   pub accepted : AcceptedAlike
   pub judged : JudgedAlike
   pub rewritten : WrittenAlike
+  -- ---- event packets
+
+  -- a written packet is read: its head, each used slot with its time, and nothing for the others
+  pub events : EventsComeBack
+  -- an accepted packet, written again from what is read of it, answers the same, and has the same bytes at every place that is looked at, the
+  -- CRC aside
+  pub eventsAgain : EventsWrittenAgain
+  -- the slots below the count are used; the time of one is its whole number of sixteenths divided by 16, and nothing is rounded
+  pub times : TimesAreExact
+  -- and a step through a packet that was accepted tells what its reader tells
+  pub eventIn : EventInAgrees
   -- ---- frames
 
   -- a frame that accepted calls wrote comes back, also with one bit flipped in each of its units

@@ -4,8 +4,9 @@ use mathlib.Core.List.{List}
 use Prim.Native.Nat.{ℕ, _%_}
 use lib.ListN.{getD}
 use borrow.Author.Needs.{needs}
+use Rattle.space_packet.specs.Layout.{word, numberAt}
 use Rattle.command.specs.declared.Fields.{Fields}
-use Rattle.command.specs.Layout.{word, numberAt, fieldsIn}
+use Rattle.command.specs.Layout.{fieldsIn}
 use Rattle.command.proofs.fields_in.Statement.{statement}
 use Rattle.command.proofs.fields_in.Tie as tie
 

@@ -1,9 +1,10 @@
 -- Each contract is the tie itself; each refusal is the first arm of `answer`, and the number stands in both arms.
 use mathlib.Core.Path.{refl}
 use Rattle.base.proofs.Refused.{answer-no, answer-number}
+use Rattle.space_packet.specs.declared.Sent.{Sent}
+use Rattle.space_packet.specs.Reply.{settled}
 use Rattle.command_reading.specs.declared.Command.{Command}
 use Rattle.command_reading.specs.Reading as reading
-use Rattle.command_writing.specs.declared.Sent.{Sent}
 use Rattle.command_writing.specs.Writing as writing
 use Rattle.promises.specs.Ties.{Determined, Answers}
 use Rattle.promises.specs.calls.Command as calls
@@ -11,9 +12,6 @@ use Rattle.promises.proofs.Ties.{determined, answers, both}
 
 pub judge : Answers calls.judge
 judge = answers calls.judge (λ κs a. tt) (λ κs a x e p. p) (λ κs a. refl) (λ κs a h. refl) λ κs a. refl
-
-pub word-at : Determined calls.wordAt
-word-at = determined calls.wordAt (λ κs a. tt) λ κs a x e p. p
 
 pub fields-in : Determined calls.fieldsIn
 fields-in = determined calls.fieldsIn (λ κs a. tt) λ κs a x e p. p
@@ -35,7 +33,7 @@ unfolding reading.furtherReply
 further = answers calls.further (λ κs a. tt) (λ κs a x e p. p) (λ κs a. refl) (λ κs a h. answer-no _ _ _ h) λ κs a. tt
 
 pub write : Answers calls.write
-unfolding writing.settled writing.writeReply writing.writeRoom
+unfolding settled writing.writeReply writing.writeRoom
 write =
     answers calls.write (λ κs a. tt) (λ κs a x e p. both p) (λ κs a. refl) (λ κs a h. both (answer-no _ _ _ h, answer-no _ _ _ h))
     λ κs a. answer-number (λ (x : Sent). x .refusal) _ _ _ refl (λ z. refl)

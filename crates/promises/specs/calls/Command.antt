@@ -5,12 +5,13 @@ use mathlib.Core.Option.{none, some}
 use mathlib.Core.List.{List, []}
 use lib.ListN.{length}
 use denote.Ref.{now}
+use Rattle.space_packet.specs.declared.Sent.{Sent}
+use Rattle.space_packet.specs.Reply.{refused as writeRefused}
 use Rattle.command_catalogue.specs.Rules as rules
 use Rattle.command.specs.Layout as layout
 use Rattle.command.specs.Asking.{firstCauses}
 use Rattle.command_reading.specs.Reading.{readCauses, readReply, furtherReply, refused as readRefused}
-use Rattle.command_writing.specs.declared.Sent.{Sent}
-use Rattle.command_writing.specs.Writing.{writeCauses, writeReply, writeRoom, refused as writeRefused}
+use Rattle.command_writing.specs.Writing.{writeCauses, writeReply, writeRoom}
 use Rattle.command_catalogue.proofs as command_catalogue
 use Rattle.command.proofs as command
 use Rattle.command_reading.proofs as command_reading
@@ -29,12 +30,6 @@ judge =
     repliesOrRefuses command_catalogue.judge.ended command_catalogue.judge.Reads.Asked command_catalogue.judge.Reads.Post
     λ κs (catalogue, (mode, (type, (qualifier, (address, (word, (bytes, _))))))).
     numberAlone (rules.judgeCauses catalogue mode type qualifier address word (now bytes))
-
--- `command::word_at`
-abbrev pub wordAt : Function
-wordAt =
-    replies command.word_at.ended command.word_at.Reads.Asked command.word_at.Reads.Post
-    λ κs (bytes, (at, _)). layout.numberAt layout.word (now bytes) (at .0)
 
 -- `command::fields_in`
 abbrev pub fieldsIn : Function
