@@ -4,10 +4,11 @@ use mathlib.Core.Bool.{Bool, true, false, cond, not, _||_}
 use mathlib.Core.List.{List, [], _∷_}
 use Prim.Native.Nat.{ℕ, _≤_, _<_}
 use lib.Dec.{eqb, ltb}
-use borrow.Author.Tests.{lt-ltb, le-ltb, ltb-true, ltb-false, eqb-true, not-false}
+use borrow.Author.Tests.{lt-ltb, le-ltb, ltb-true, ltb-false, eqb-true, eqb-false, not-false}
 use Rattle.base.specs.Refusal.{Causes, verdict, answer}
 use Rattle.base.proofs.Booleans.{and-both, and-right, or-false, by-test}
 use Rattle.base.proofs.Refused.{Spared, spared, answer-yes, answer-no, answer-number}
+use Rattle.event.specs.declared.Head.{Head}
 use Rattle.event.specs.declared.SlotTime.the-variants.{At, NoEvent}
 use Rattle.event.specs.Layout.{dataType, slotCount, typeIn, headIn, slotAt, emptySlot, detectorWrong, slotsBy, someSlot, isUsed, held, slotIn}
 use Rattle.event.specs.Time.{sixteenths, seconds, eventOf, noEvent, placed, eventFrom, eventIn}
@@ -33,6 +34,10 @@ module _ (bs : List ℕ) where
     pub event-number : eventReply bs i .refusal ≡ verdict (slotCauses bs i)
     unfolding eventReply
     event-number = answer-number (λ (r : EventReply). r .refusal) (verdict (slotCauses bs i)) eventRefused (eventGiven 0 (eventIn bs i)) refl (λ z. refl)
+
+    -- accepted or refused
+    pub by-verdict : {P : Type 0} → (verdict (slotCauses bs i) ≡ 0 → P) → ((verdict (slotCauses bs i) ≡ 0 → ⊥) → P) → P
+    by-verdict accepted refused = by-test (eqb (verdict (slotCauses bs i)) 0) (λ t. accepted (eqb-true _ 0 t)) (λ f. refused (eqb-false _ 0 f))
 
     -- ---- which slot
 
@@ -123,3 +128,6 @@ module _ (bs : List ℕ) (z : verdict (headCauses bs) ≡ 0) where
 
   pub head-as-read : headReply bs .head ≡ headIn bs
   head-as-read = ap (λ (r : HeadReply). r .head) (head-given bs z)
+
+  pub count-as-read : headReply bs .head .count ≡ headIn bs .count
+  count-as-read = ap (λ (h : Head). h .count) head-as-read

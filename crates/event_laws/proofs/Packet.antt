@@ -22,7 +22,7 @@ use Rattle.event_reading.specs.Reading.{contentsWrong, headCauses}
 use Rattle.event_writing.specs.Writing.{slotWrong}
 use Rattle.event_writing.proofs.Slots.{slotLaid, first-right, slot-fits, so-far-length, body-laid}
 use Rattle.event_laws.proofs.Answers.{verdict-spared}
-use Rattle.event_laws.proofs.Rows.{all-right, by-length, by-at}
+use Rattle.event_laws.proofs.Rows.{all-right, by-length, from-start}
 
 -- ---- slots in a row
 
@@ -110,8 +110,7 @@ module _ (h : Head) (ss : List Slot) where
         where
           each : (i : ℕ) → i < h .count → detectorWrong (getD (slotsBy (slotAt (eventBytes h ss)) 0 (h .count)) i emptySlot) ≡ false
           each i k =
-              let here : 0 + i ≡ i = omega arith in
-              ap detectorWrong (by-at (slotAt (eventBytes h ss)) 0 (h .count) i k ∙ ap (slotAt (eventBytes h ss)) here ∙ slot-stood i k)
+              ap detectorWrong (from-start (slotAt (eventBytes h ss)) (h .count) i k ∙ slot-stood i k)
               ∙ le-ltb 23 (getD ss i emptySlot .detector) (slot-fits (getD ss i emptySlot) (first-right ss long (h .count) few i right k) .0)
 
       module _ (k : h .sequence < 16384) where

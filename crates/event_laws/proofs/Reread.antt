@@ -27,9 +27,9 @@ use Rattle.event_writing.proofs.Slots.{slotLaid, laid-append, laid-length, none
 use Rattle.event_writing.proofs.Replies.{reply-number}
 use Rattle.event_laws.specs.Written.{ComesBack}
 use Rattle.event_laws.specs.Reread.{headRead, slotsRead, lookedAt, again, EventsWrittenAgain}
-use Rattle.event_laws.proofs.Answers.{verdict-spared, head-number, slot-judged, slot-given, slot-used, slot-outside, event-outside, accepted-type, accepted-count, accepted-detectors, head-as-read}
+use Rattle.event_laws.proofs.Answers.{verdict-spared, head-number, slot-judged, slot-given, slot-used, slot-outside, event-outside, accepted-type, accepted-count, accepted-detectors, head-as-read, count-as-read}
 use Rattle.event_laws.proofs.Packet.{crcLast, packet-in-parts}
-use Rattle.event_laws.proofs.Rows.{all-right, by-length, by-at}
+use Rattle.event_laws.proofs.Rows.{all-right, by-length, from-start}
 use Rattle.event_laws.proofs.Written.{comes-back, written-is-packet, events-come-back}
 
 -- ---- two packets that hold the same
@@ -70,11 +70,6 @@ module _ (bs : List ℕ) (bytes : AreBytes bs) (z : verdict (headCauses bs) ≡ 
   header = header-right packetId bs (none .1 .0)
 
   -- ---- its slots
-
-  from-start : (rule : ℕ → Slot) (n i : ℕ) → i < n → getD (slotsBy rule 0 n) i emptySlot ≡ rule i
-  from-start rule n i h =
-      let e : 0 + i ≡ i = omega arith in
-      by-at rule 0 n i h ∙ ap rule e
 
   slot-right : (i : ℕ) → i < count → slotWrong (slotAt bs i) ≡ false
   slot-right i k =
@@ -125,7 +120,7 @@ module _ (bs : List ℕ) (bytes : AreBytes bs) (z : verdict (headCauses bs) ≡ 
 
   holds-what-is-read : ComesBack bs (headRead bs) (slotsRead bs)
   holds-what-is-read =
-      let same : headRead bs .count ≡ count = ap (λ (h : Head). h .count) (head-as-read bs z) in
+      let same : headRead bs .count ≡ count = count-as-read bs z in
       comes-back bs (headRead bs) (slotsRead bs) z (sym (head-as-read bs z)) (omega (arith, same, accepted-count bs z)) (λ i k. sym (slot-as-read i (omega (arith, k, same))))
 
   -- ---- the bytes that are looked at
@@ -207,6 +202,6 @@ events-written-again bs room bytes fit z =
         slot = slots-alike (headRead bs) (slotsRead bs) bs (again bs room) b c;
         event = events-alike (headRead bs) (slotsRead bs) bs (again bs room) b c;
         bytes =
-            subst (λ (n : ℕ). lookedAt n (again bs room) ≡ lookedAt n bs) (sym (ap (λ (h : Head). h .count) (head-as-read bs v))) (bytes-alike bs bytes v room w);
+            subst (λ (n : ℕ). lookedAt n (again bs room) ≡ lookedAt n bs) (sym (count-as-read bs v)) (bytes-alike bs bytes v room w);
       },
     )

@@ -18,9 +18,14 @@ module _ (rule : ℕ → Slot) where
   by-length i zero = refl
   by-length i (suc n) = ap suc (by-length (suc i) n)
 
-  pub by-at : (i n k : ℕ) → k < n → getD (slotsBy rule i n) k emptySlot ≡ rule (i + k)
+  by-at : (i n k : ℕ) → k < n → getD (slotsBy rule i n) k emptySlot ≡ rule (i + k)
   by-at i zero k h = absurd (omega arith)
   by-at i (suc n) zero h = ap rule (omega arith)
   by-at i (suc n) (suc k) h =
       let e : suc i + k ≡ i + suc k = omega arith in
       by-at (suc i) n k (omega (arith, h)) ∙ ap rule e
+
+  pub from-start : (n i : ℕ) → i < n → getD (slotsBy rule 0 n) i emptySlot ≡ rule i
+  from-start n i h =
+      let e : 0 + i ≡ i = omega arith in
+      by-at 0 n i h ∙ ap rule e

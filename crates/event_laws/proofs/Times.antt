@@ -6,9 +6,9 @@ use mathlib.Core.List.{List}
 use Prim.Native.Nat.{ℕ, _+_, _≤_, _<_, _^_}
 use native.Mathlib.Nat.{le-of-lt}
 use native.Mathlib.Omega.{arith}
-use lib.Dec.{eqb, ltb}
+use lib.Dec.{ltb}
 use lib.Ieee.{Float, binary64}
-use borrow.Author.Tests.{eqb-true, eqb-false, ltb-true, ltb-false}
+use borrow.Author.Tests.{ltb-true, ltb-false}
 use Rattle.base.specs.Refusal.{verdict}
 use Rattle.base.proofs.Booleans.{by-test}
 use Rattle.space_packet.specs.Layout.{AreBytes}
@@ -21,7 +21,7 @@ use Rattle.event_reading.specs.declared.SlotReply.{SlotReply}
 use Rattle.event_reading.specs.declared.EventReply.{EventReply}
 use Rattle.event_reading.specs.Reading.{headCauses, slotCauses, slotGiven, eventGiven, headReply, slotReply, eventReply}
 use Rattle.event_laws.specs.Times.{Exactly, Timed, TimesAreExact, EventInAgrees}
-use Rattle.event_laws.proofs.Answers.{head-number, event-number, slot-judged, slot-within, packet-judged, slot-given, slot-refused, slot-used, slot-unused, event-given, event-refused, event-used, event-unused, accepted-count, head-as-read}
+use Rattle.event_laws.proofs.Answers.{head-number, event-number, slot-judged, slot-within, packet-judged, slot-given, slot-refused, slot-used, slot-unused, event-given, event-refused, event-used, event-unused, by-verdict, accepted-count, head-as-read, count-as-read}
 
 -- the sixteenths of a packet of bytes are below 2 ^ 53
 few-sixteenths : (bs : List ℕ) → AreBytes bs → (i : ℕ) → sixteenths (headIn bs .start) (slotAt bs i) < 2 ^ 53
@@ -51,24 +51,16 @@ module _ (bs : List ℕ) (i : ℕ) where
   is-below : headReply bs .refusal ≡ 0 → i < headReply bs .head .count → slotReply bs i .used ≡ true
   is-below z h =
       let v : verdict (headCauses bs) ≡ 0 = sym (head-number bs) ∙ z in
-      let same : headReply bs .head .count ≡ headIn bs .count = ap (λ (x : Head). x .count) (head-as-read bs v) in
-      let below : i < headIn bs .count = omega (arith, h, same) in
+      let below : i < headIn bs .count = omega (arith, h, count-as-read bs v) in
       let few : headIn bs .count ≤ slotCount = accepted-count bs v in
       ap (λ (r : SlotReply). r .used) (reply-below (slot-judged bs i (omega arith) v) below)
 
   is-past : headReply bs .head .count ≤ i → slotReply bs i .used ≡ false
-  is-past h = by-test (eqb (verdict (slotCauses bs i)) 0) (λ t. accepted (eqb-true _ 0 t)) (λ f. reply-refused (eqb-false _ 0 f))
-    where
-      accepted : verdict (slotCauses bs i) ≡ 0 → slotReply bs i .used ≡ false
-      accepted z =
-          let same : headReply bs .head .count ≡ headIn bs .count = ap (λ (x : Head). x .count) (head-as-read bs (packet-judged bs i z)) in
-          reply-past z (λ b. omega (arith, b, h, same))
+  is-past h = by-verdict bs i (λ z. reply-past z (λ b. omega (arith, b, h, count-as-read bs (packet-judged bs i z)))) reply-refused
 
   -- and one that is used is below the count of an accepted packet
   is-used : slotReply bs i .used ≡ true → (verdict (slotCauses bs i) ≡ 0) × (i < headIn bs .count)
-  is-used u =
-      by-test (eqb (verdict (slotCauses bs i)) 0) (λ t. (eqb-true _ 0 t, accepted (eqb-true _ 0 t)))
-      (λ f. absurd (true≢false (sym u ∙ reply-refused (eqb-false _ 0 f))))
+  is-used u = by-verdict bs i (λ z. (z, accepted z)) (λ n. absurd (true≢false (sym u ∙ reply-refused n)))
     where
       accepted : verdict (slotCauses bs i) ≡ 0 → i < headIn bs .count
       accepted z = by-test (ltb i (headIn bs .count)) (λ t. ltb-true _ _ t) (λ f. absurd (true≢false (sym u ∙ reply-past z (λ b. omega (arith, b, ltb-false i (headIn bs .count) f)))))
@@ -97,7 +89,7 @@ module _ (bs : List ℕ) (i : ℕ) where
       }
 
   unused-time : slotReply bs i .used ≡ false → slotTimeNumber (eventReply bs i .time) ≡ 0
-  unused-time u = by-test (eqb (verdict (slotCauses bs i)) 0) (λ t. accepted (eqb-true _ 0 t)) (λ f. ap (λ (r : EventReply). slotTimeNumber (r .time)) (event-refused bs i (eqb-false _ 0 f)))
+  unused-time u = by-verdict bs i accepted (λ n. ap (λ (r : EventReply). slotTimeNumber (r .time)) (event-refused bs i n))
     where
       accepted : verdict (slotCauses bs i) ≡ 0 → slotTimeNumber (eventReply bs i .time) ≡ 0
       accepted z =
