@@ -1,5 +1,5 @@
--- FORMAT, "Health packets": the answer about the last sound packet of a type.
-use Prim.Native.Nat.{ℕ, _%_}
+-- FORMAT, "Health packets": the newest packet of a type. Of the last sound packets of the two recordings the newer is shown.
+use Prim.Native.Nat.{ℕ, _+_, _-_, _%_}
 use mathlib.Core.Bool.{Bool, cond, not, _&&_, _||_}
 use mathlib.Core.List.{List, [], _∷_, _++_}
 use lib.ListN.{length}
@@ -7,7 +7,7 @@ use lib.Dec.{leb, eqb}
 use Rattle.base.specs.Size.{packetWidth}
 use Rattle.base.specs.Limit.{tooLong, healthLimit}
 use Rattle.base.specs.Refusal.{Causes, verdict, answer, wrongArgument, wrongLength, nothingThere}
-use Rattle.health.specs.Packet.{packetAt}
+use Rattle.health.specs.Packet.{packetAt, packetTime}
 use Rattle.health_last.specs.declared.Sought.{Sought}
 use Rattle.health_last.specs.declared.Sought.the-variants.{At, Nowhere}
 use Rattle.health_last.specs.declared.Place.{Place}
@@ -26,11 +26,38 @@ place v recording at = record { refusal = v; recording = recording; at = record 
 abbrev pub refused : ℕ → Place
 refused v = place v 0 0
 
--- The rule for which packet is shown: the science recording's (1), or, if that holds none, the health recording's (2).
-abbrev pub shown : Sought → Sought → Place
-shown (At p) s = place 0 1 (p .0)
-shown Nowhere (At p) = place 0 2 (p .0)
-shown Nowhere Nowhere = place 0 0 0
+-- how far the time h lies after the time s, modulo 65,536
+abbrev pub ahead : ℕ → ℕ → ℕ
+ahead s h = (h + (65536 - s)) % 65536
+
+-- Which of two packets is newer, of time s in the science recording or of time h in the health recording: the health recording's (2) where its time lies 1 to
+-- 32,767 after the other; neither (0) where the two are exactly 32,768 apart; else the science recording's (1), at equal times too.
+unfoldable pub newer : ℕ → ℕ → ℕ
+newer s h = cond (eqb (ahead s h) 32768) 0 (cond (leb 1 (ahead s h) && leb (ahead s h) 32767) 2 1)
+
+-- the time of the packet that was found; 0 where none was, which decides nothing
+unfoldable pub timeAt : List ℕ → Sought → ℕ
+timeAt ws (At p) = packetTime (packetAt ws (p .0))
+timeAt ws Nowhere = 0
+
+-- the place of what was found in a recording; no recording where nothing was
+unfoldable pub placeIn : ℕ → Sought → Place
+placeIn recording (At p) = place 0 recording (p .0)
+placeIn recording Nowhere = place 0 0 0
+
+-- The rule for which packet is shown. Where both recordings have one it is that of recording n, the newer, and none where n is 0. Where one has none it is
+-- the other's, whatever its time.
+unfoldable pub shown : Sought → Sought → ℕ → Place
+shown (At p) (At q) n = cond (eqb n 1) (placeIn 1 (At p)) (cond (eqb n 2) (placeIn 2 (At q)) (place 0 0 0))
+shown (At p) Nowhere n = placeIn 1 (At p)
+shown Nowhere s n = placeIn 2 s
+
+-- what is shown: the last packet of each recording, by place, is found, and these two are compared
+unfoldable pub newest : ℕ → List ℕ → List ℕ → ℕ → Place
+newest sync science health t =
+    let a = inScience sync science t in
+    let b = inHealth health t in
+    shown a b (newer (timeAt science a) (timeAt health b))
 
 -- types 1 to 15 can be asked for
 abbrev pub askedType : ℕ → Bool
@@ -45,15 +72,15 @@ abbrev pub argumentCauses : List ℕ → List ℕ → ℕ → Causes
 argumentCauses science health t =
     (wrongArgument, not (askedType t)) ∷ (wrongLength, tooLong science || not (healthLength (length health))) ∷ []
 
--- these, and last that neither recording has one
+-- these, and last that nothing is shown: neither recording has a packet, or the two are exactly half a turn apart
 abbrev pub lastCauses : ℕ → List ℕ → List ℕ → ℕ → Causes
 lastCauses sync science health t =
-    argumentCauses science health t ++ (nothingThere, eqb (shown (inScience sync science t) (inHealth health t) .recording) 0) ∷ []
+    argumentCauses science health t ++ (nothingThere, eqb (newest sync science health t .recording) 0) ∷ []
 
 -- which recording the packet is shown of, and its place there
 unfoldable pub lastPlaceReply : ℕ → List ℕ → List ℕ → ℕ → Place
 lastPlaceReply sync science health t =
-    answer (verdict (lastCauses sync science health t)) refused (shown (inScience sync science t) (inHealth health t))
+    answer (verdict (lastCauses sync science health t)) refused (newest sync science health t)
 
 -- the 32 words at a place of one of the two; no words where nothing is shown
 unfoldable pub partAt : Place → List ℕ → List ℕ → List ℕ

@@ -1,17 +1,22 @@
-// The last sound packet of a type: in the listed health chunks of a science recording, or else in a health recording.
+// The last sound packet of a type in each of two recordings, a science recording and a health recording, and the newer of the two.
 mod seek;
 
 use base::Words;
 use base::limit;
 use base::refusal;
 use base::size::PACKET;
+use std::num;
 ghost use mathlib.Core.Path.{_≡_};
 ghost use Prim.Native.Nat.{_+_, _≤_};
 ghost use lib.ListN.{length};
 ghost use Rattle.base.specs.Size.{packetWidth};
 ghost use Rattle.base.specs.Refusal.{verdict};
 ghost use Rattle.health.specs.Packet.{packetAt};
-ghost use Rattle.health_last.specs.Last.{argumentCauses, refused, shown, lastPlaceReply, lastPacketReply};
+ghost use Rattle.health_last.specs.declared.Sought.the-variants.{At};
+ghost use Rattle.health_last.specs.Last.{argumentCauses, refused, newer, timeAt, placeIn, shown, newest, lastPlaceReply, lastPacketReply};
+
+// a packet's time is its word 2
+const TIME: Words = Words(2);
 
 // The place of a packet that was looked for.
 enum Sought {
@@ -40,25 +45,68 @@ fn judge(science: &[u16], health: &[u16], packet_type: u16) -> u8
     )
 }
 
-// The rule for which packet is shown: the science recording's, if it has one.
-fn choose(science: Sought, health: Sought) -> Place
-    ensures { λ r. ⌜ r ≡ shown science health ⌝ }
+// The time of a packet that was found, 0 where none was.
+fn time_at(words: &[u16], found: Sought) -> u16
+    requires { ⌜ ((at : Words) → found ≡ At at → at .0 + packetWidth ≤ length (now words)) ⌝ }
+    ensures { λ r. ⌜ r ≡ timeAt (now (words .entry)) found ⌝ }
 {
-    match science {
+    match found {
+        Sought::At(at) => base_room::word_at(words, Words(at.0 + TIME.0)),
+        Sought::Nowhere => 0,
+    }
+}
+
+// Which of two packets is newer by their times: the science recording's (1), at equal times too, the health recording's (2), or
+// neither (0), where they are exactly half a turn apart.
+fn newer(science: u16, health: u16) -> u8
+    ensures { λ r. ⌜ r ≡ newer science health ⌝ }
+{
+    let ahead = num::wrapping_sub_u16(health, science);
+    if ahead == 0 {
+        return 1;
+    }
+    if ahead <= 32767 {
+        return 2;
+    }
+    if ahead == 32768 {
+        return 0;
+    }
+    1
+}
+
+// The place of what was found in a recording.
+fn place_in(recording: u8, found: Sought) -> Place
+    ensures { λ r. ⌜ r ≡ placeIn recording found ⌝ }
+{
+    match found {
         Sought::At(at) => Place {
             refusal: 0,
-            recording: 1,
+            recording,
             at,
         },
-        Sought::Nowhere => match health {
-            Sought::At(at) => Place {
-                refusal: 0,
-                recording: 2,
-                at,
-            },
-            Sought::Nowhere => refused(0),
-        },
+        Sought::Nowhere => refused(0),
     }
+}
+
+// The rule for which packet is shown: that of the recording that alone has one, or, where both have one, the newer.
+fn choose(science: Sought, health: Sought, newer: u8) -> Place
+    ensures { λ r. ⌜ r ≡ shown science health newer ⌝ }
+{
+    let in_science = place_in(1, science);
+    let in_health = place_in(2, health);
+    if in_health.recording == 0 {
+        return in_science;
+    }
+    if in_science.recording == 0 {
+        return in_health;
+    }
+    if newer == 1 {
+        return in_science;
+    }
+    if newer == 2 {
+        return in_health;
+    }
+    refused(0)
 }
 
 fn refused(number: u8) -> Place
@@ -71,7 +119,19 @@ fn refused(number: u8) -> Place
     }
 }
 
-// Where the last sound packet of a type stands: the second call beside `last_packet`, and its number.
+// The last sound packet of each recording, and the newer of the two.
+fn newest(science: &[u16], sync: u16, health: &[u16], packet_type: u16) -> Place
+    ensures { λ r. ⌜ r ≡ newest sync (now (science .entry)) (now (health .entry)) «packet_type» ⌝ }
+{
+    let in_science = seek::in_science(science, sync, packet_type);
+    let in_health = seek::in_row(health, packet_type, Words(0), health.len() / PACKET.0);
+    let science_time = time_at(science, in_science);
+    let health_time = time_at(health, in_health);
+    let newer = newer(science_time, health_time);
+    choose(in_science, in_health, newer)
+}
+
+// Where the packet that is shown of a type stands: the second call beside `last_packet`, and its number.
 pub fn last_place(science: &[u16], sync: u16, health: &[u16], packet_type: u16) -> Place
     ensures { λ r. ⌜ r ≡ lastPlaceReply sync (now (science .entry)) (now (health .entry)) «packet_type» ⌝ }
 {
@@ -79,9 +139,7 @@ pub fn last_place(science: &[u16], sync: u16, health: &[u16], packet_type: u16) 
     if verdict != 0 {
         return refused(verdict);
     }
-    let in_science = seek::in_science(science, sync, packet_type);
-    let in_health = seek::in_row(health, packet_type, Words(0), health.len() / PACKET.0);
-    let place = choose(in_science, in_health);
+    let place = newest(science, sync, health, packet_type);
     if place.recording == 0 {
         return refused(refusal::NOTHING_THERE);
     }
@@ -98,7 +156,7 @@ fn packet_at(words: &[u16], at: Words) -> &[u16]
     &words[from..end]
 }
 
-// The last sound packet of a type, as a part of the recording that it stands in; empty where `last_place` refuses.
+// The packet that is shown of a type, as a part of the recording that it stands in; empty where `last_place` refuses.
 pub fn last_packet<'a>(
     science: &'a [u16],
     sync: u16,

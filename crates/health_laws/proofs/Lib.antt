@@ -3,3 +3,4 @@ pub mod Modes
 pub mod Fields
 pub mod Recordings
 pub mod Lasts
+pub mod Newest

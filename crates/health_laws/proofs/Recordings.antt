@@ -21,41 +21,36 @@ use Rattle.health.specs.Packet.{packetType}
 use Rattle.health_last.specs.Packets.{foundAt, nowhere, packetPlaces, chunkPlaces, placesOf, soundOf, later, lastWhere}
 use Rattle.health_last.specs.Last.{inScience}
 use Rattle.health_last.proofs.Later.{last-append}
-use Rattle.health_laws.specs.Written.{written}
-use Rattle.health_laws.specs.Recordings.{Packet, packets, noneOf, LastInHealth, NoneInHealth, Carrier, calls, allCarried, LastInScience, NoneInScience}
+use Rattle.health_laws.specs.Recordings.{Packet, left, packets, noneOf, LastInHealth, NoneInHealth, Carrier, calls, allCarried, LastInScience, NoneInScience}
 use Rattle.health_laws.proofs.RoundTrip.{accepted-parts, written-packet, left-is-sound}
 
 -- ---- one packet
 
--- the words of a packet
-abbrev packet : Packet → List ℕ
-packet p = written (p .type) (p .time) (p .words) (p .room)
-
-packet-length : (p : Packet) → length (packet p) ≡ 32
+packet-length : (p : Packet) → length (left p) ≡ 32
 packet-length p =
     ap length (written-packet (p .type) (p .time) (p .words) (p .room) (p .accepted))
     ∙ omega (arith, accepted-parts (p .type) (p .time) (p .words) (p .room) (p .accepted))
 
-packet-type : (p : Packet) → packetType (packet p) ≡ p .type
+packet-type : (p : Packet) → packetType (left p) ≡ p .type
 packet-type p = ap packetType (written-packet (p .type) (p .time) (p .words) (p .room) (p .accepted))
 
 packets-length : (ps : List Packet) → length (packets ps) ≡ 32 * length ps
 packets-length [] = refl
-packets-length (p ∷ ps) = omega (arith, length-append (packet p) (packets ps), packet-length p, packets-length ps)
+packets-length (p ∷ ps) = omega (arith, length-append (left p) (packets ps), packet-length p, packets-length ps)
 
 -- at a place from where on a written packet stands, a sound one of its type stands and of no other
-told-by-type : (t : ℕ) (ws : List ℕ) (at : ℕ) (p : Packet) (rest : List ℕ) → drop at ws ≡ packet p ++ rest → soundOf ws t at ≡ eqb (p .type) t
+told-by-type : (t : ℕ) (ws : List ℕ) (at : ℕ) (p : Packet) (rest : List ℕ) → drop at ws ≡ left p ++ rest → soundOf ws t at ≡ eqb (p .type) t
 unfolding soundOf
 told-by-type t ws at p rest e =
-    let here : take 32 (drop at ws) ≡ packet p = ap (take 32) e ∙ take-at (packet p) rest 32 (packet-length p) in
+    let here : take 32 (drop at ws) ≡ left p = ap (take 32) e ∙ take-at (left p) rest 32 (packet-length p) in
     rw (here, packet-type p, left-is-sound (p .type) (p .time) (p .words) (p .room) (p .accepted)) (and-true (eqb (p .type) t))
   where
     and-true : (b : Bool) → b && true ≡ b
     and-true true = refl
     and-true false = refl
 
-past-packet : (ws : List ℕ) (at : ℕ) (p : Packet) (rest : List ℕ) → drop at ws ≡ packet p ++ rest → drop (at + 32) ws ≡ rest
-past-packet ws at p rest e = sym (drop-drop 32 at ws) ∙ ap (drop 32) e ∙ drop-at (packet p) rest 32 (packet-length p)
+past-packet : (ws : List ℕ) (at : ℕ) (p : Packet) (rest : List ℕ) → drop at ws ≡ left p ++ rest → drop (at + 32) ws ≡ rest
+past-packet ws at p rest e = sym (drop-drop 32 at ws) ∙ ap (drop 32) e ∙ drop-at (left p) rest 32 (packet-length p)
 
 -- ---- a row of packets that stands at a place
 
@@ -64,7 +59,7 @@ none-in-row : (t : ℕ) (ws : List ℕ) (at : ℕ) (ps : List Packet) (rest : Li
 unfolding lastWhere packetPlaces
 none-in-row t ws at [] rest e k = refl
 none-in-row t ws at (p ∷ ps) rest e k =
-    let e′ : drop at ws ≡ packet p ++ (packets ps ++ rest) = e ∙ append-assoc (packet p) (packets ps) rest in
+    let e′ : drop at ws ≡ left p ++ (packets ps ++ rest) = e ∙ append-assoc (left p) (packets ps) rest in
     let other : eqb (p .type) t ≡ false = not-true (eqb (p .type) t) (and-left (not (eqb (p .type) t)) _ k) in
     rw (
       none-in-row t ws (at + 32) ps rest (past-packet ws at p (packets ps ++ rest) e′) (and-right (not (eqb (p .type) t)) _ k),
@@ -76,7 +71,7 @@ last-in-row : (ws : List ℕ) (at : ℕ) (before : List Packet) (p : Packet) (af
     → lastWhere (soundOf ws (p .type)) (packetPlaces (length (before ++ p ∷ after)) at) ≡ foundAt (at + length (packets before))
 unfolding lastWhere packetPlaces
 last-in-row ws at [] p after rest e k =
-    let e′ : drop at ws ≡ packet p ++ (packets after ++ rest) = e ∙ append-assoc (packet p) (packets after) rest in
+    let e′ : drop at ws ≡ left p ++ (packets after ++ rest) = e ∙ append-assoc (left p) (packets after) rest in
     rw (
       none-in-row (p .type) ws (at + 32) after rest (past-packet ws at p (packets after ++ rest) e′) k,
       told-by-type (p .type) ws at p (packets after ++ rest) e′ ∙ eq-eqb (p .type) (p .type) refl,
@@ -84,9 +79,32 @@ last-in-row ws at [] p after rest e k =
     (ap foundAt (omega arith))
 last-in-row ws at (q ∷ before) p after rest e k =
     let tail = packets (before ++ p ∷ after) in
-    let e′ : drop at ws ≡ packet q ++ (tail ++ rest) = e ∙ append-assoc (packet q) tail rest in
+    let e′ : drop at ws ≡ left q ++ (tail ++ rest) = e ∙ append-assoc (left q) tail rest in
     rw (last-in-row ws (at + 32) before p after rest (past-packet ws at q (tail ++ rest) e′) k)
-    (ap foundAt (omega (arith, length-append (packet q) (packets before), packet-length q)))
+    (ap foundAt (omega (arith, length-append (left q) (packets before), packet-length q)))
+
+-- the packet itself stands there
+packets-append : (ps qs : List Packet) → packets (ps ++ qs) ≡ packets ps ++ packets qs
+packets-append [] qs = refl
+packets-append (p ∷ ps) qs = ap (λ (ws : List ℕ). left p ++ ws) (packets-append ps qs) ∙ sym (append-assoc (left p) (packets ps) (packets qs))
+
+stands-in-row : (ws : List ℕ) (at : ℕ) (before : List Packet) (p : Packet) (after : List Packet) (rest : List ℕ)
+    → drop at ws ≡ packets (before ++ p ∷ after) ++ rest → take 32 (drop (at + length (packets before)) ws) ≡ left p
+stands-in-row ws at before p after rest e =
+    let n = length (packets before) in
+    let tail = packets after ++ rest in
+    let parted : packets (before ++ p ∷ after) ++ rest ≡ packets before ++ (left p ++ tail) =
+    ap (λ (ps : List ℕ). ps ++ rest) (packets-append before (p ∷ after)) ∙ append-assoc (packets before) (packets (p ∷ after)) rest
+    ∙ ap (λ (ps : List ℕ). packets before ++ ps) (append-assoc (left p) (packets after) rest) in
+    ap (take 32) (sym (drop-drop n at ws) ∙ ap (drop n) (e ∙ parted) ∙ drop-at (packets before) (left p ++ tail) n refl)
+    ∙ take-at (left p) tail 32 (packet-length p)
+
+pub stands-in-health : (before : List Packet) (p : Packet) (after : List Packet)
+    → take 32 (drop (length (packets before)) (packets (before ++ p ∷ after))) ≡ left p
+stands-in-health before p after =
+    let ps = packets (before ++ p ∷ after) in
+    let here : length (packets before) ≡ 0 + length (packets before) = omega arith in
+    ap (λ (i : ℕ). take 32 (drop i ps)) here ∙ stands-in-row ps 0 before p after [] (sym (append-nil ps))
 
 pub last-in-health : LastInHealth
 last-in-health before p after k =
@@ -213,6 +231,22 @@ last-in-chunks sync ws at (b ∷ before) c after earlier p later k e carries n =
     )
     (ap foundAt (omega (arith, length-append (b .call .payload) (words sync (chunks before)), whole-length (chunk b) (first-whole sync ws at b cs k e))))
 
+stands-in-chunks : (sync : ℕ) (ws : List ℕ) (at : ℕ) (before : List Carrier) (c : Carrier) (after : List Carrier)
+    (earlier : List Packet) (p : Packet) (later : List Packet)
+    → wholeRow (chunks (before ++ c ∷ after)) ≡ true → drop at ws ≡ words sync (chunks (before ++ c ∷ after)) → c .carried ≡ earlier ++ p ∷ later
+    → take 32 (drop (at + offset sync (chunks before) + 2 + length (packets earlier)) ws) ≡ left p
+stands-in-chunks sync ws at [] c after earlier p later k e carries =
+    let here : at + 0 + 2 + length (packets earlier) ≡ at + 2 + length (packets earlier) = omega arith in
+    ap (λ (i : ℕ). take 32 (drop i ws)) here
+    ∙ stands-in-row ws (at + 2) earlier p later _ (rw carries at (packets-there sync ws at c after k e))
+stands-in-chunks sync ws at (b ∷ before) c after earlier p later k e carries =
+    let cs = before ++ c ∷ after in
+    let n = length (packets earlier) in
+    let further : at + offset sync (chunks (b ∷ before)) + 2 + n ≡ at + span (chunk b .header) + offset sync (chunks before) + 2 + n =
+    omega (arith, length-append (b .call .payload) (words sync (chunks before)), whole-length (chunk b) (first-whole sync ws at b cs k e)) in
+    ap (λ (i : ℕ). take 32 (drop i ws)) further
+    ∙ stands-in-chunks sync ws (at + span (chunk b .header)) before c after earlier p later (rest-whole sync ws at b cs k e) (rest-there sync ws at b cs k e) carries
+
 -- ---- so in a recording that the chunk writer wrote
 
 all-accepted : (cs : List Carrier) → Accepted (calls cs)
@@ -240,3 +274,13 @@ last-in-science sync before c after earlier p later carries n =
 
 pub none-in-science : NoneInScience
 none-in-science sync t cs n = by-entries sync cs t ∙ none-in-chunks t sync (words sync (chunks cs)) 0 cs (chunks-whole sync cs) refl n
+
+pub stands-in-science : (sync : ℕ) (before : List Carrier) (c : Carrier) (after : List Carrier) (earlier : List Packet) (p : Packet) (later : List Packet)
+    → c .carried ≡ earlier ++ p ∷ later
+    → take 32 (drop (length (recorded sync (calls before)) + 2 + length (packets earlier)) (recorded sync (calls (before ++ c ∷ after)))) ≡ left p
+stands-in-science sync before c after earlier p later carries =
+    let cs = before ++ c ∷ after in
+    let n = length (packets earlier) in
+    let here : length (recorded sync (calls before)) + 2 + n ≡ 0 + offset sync (chunks before) + 2 + n = omega (arith, ap length (as-chunks sync before)) in
+    rw (as-chunks sync cs, here)
+    (stands-in-chunks sync (words sync (chunks cs)) 0 before c after earlier p later (chunks-whole sync cs) refl carries)

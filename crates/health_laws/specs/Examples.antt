@@ -16,6 +16,7 @@ use Rattle.health_observation.specs.declared.Observed.{Observed}
 use Rattle.health_laws.specs.Written.{Accepted}
 use Rattle.health_laws.specs.Fields.{observationWords, Observation}
 use Rattle.health_laws.specs.Recordings.{Packet, packets, Carrier}
+use Rattle.health_laws.specs.Newest.{ScienceWith, HealthWith}
 
 -- period 4, exposure 3, mode normal, RICE_EN, RICE_DT and FLAT_EN, region map 2
 abbrev pub observed : Observed
@@ -77,3 +78,10 @@ chunkAccepted = refl
 
 abbrev pub carrier : Carrier
 carrier = record { call = call; accepted = chunkAccepted; carried = packet ∷ []; image = λ e. absurd (omega (arith, e)); health = λ e. refl }
+
+-- In a recording of this chunk alone the packet is the last of its type, and so it is in a health recording of its own.
+abbrev pub scienceWith : ScienceWith packet
+scienceWith = record { before = []; carrier = carrier; after = []; earlier = []; later = []; carries = refl; last = refl }
+
+abbrev pub healthWith : HealthWith packet
+healthWith = record { before = []; after = []; last = refl }

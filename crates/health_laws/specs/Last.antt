@@ -1,4 +1,4 @@
--- FORMAT, "Health packets", the last packet of a type: whatever the words of a recording are, what is found is a sound packet of the type, and no later
+-- FORMAT, "Health packets", the newest packet of a type: whatever the words of a recording are, what is found is a sound packet of the type, and no later
 -- packet of the recording is; and where nothing is found, no packet is.
 use Prim.Native.Nat.{ℕ, _<_}
 use mathlib.Core.Path.{_≡_}

@@ -4,3 +4,4 @@ pub mod Fields
 pub mod Examples
 pub mod Recordings
 pub mod Last
+pub mod Newest

@@ -1,4 +1,4 @@
--- FORMAT, "Health packets", the last packet of a type: recordings that are made of written packets, and where the last packet of a type is found in each.
+-- FORMAT, "Health packets", the newest packet of a type: recordings that are made of written packets, and where the last packet of a type is found in each.
 use Prim.Native.Nat.{ℕ, _+_}
 use mathlib.Core.Path.{_≡_}
 use mathlib.Core.Bool.{Bool, true, not, _&&_}
@@ -19,10 +19,13 @@ pub record Packet : Type 0 where
   pub room : List ℕ
   pub accepted : Accepted type words room
 
--- the words of packets, one straight after the other
+-- its words, and those of packets one straight after the other
+abbrev pub left : Packet → List ℕ
+left p = written (p .type) (p .time) (p .words) (p .room)
+
 abbrev pub packets : List Packet → List ℕ
 packets [] = []
-packets (p ∷ ps) = written (p .type) (p .time) (p .words) (p .room) ++ packets ps
+packets (p ∷ ps) = left p ++ packets ps
 
 -- none of these is of the type t
 abbrev pub noneOf : ℕ → List Packet → Bool

@@ -10,6 +10,7 @@ use Rattle.health_laws.proofs.RoundTrip.{written-is-read, sound-is-written}
 use Rattle.health_laws.proofs.Fields.{observation-is-read, checksums-are-read, upsets-are-read}
 use Rattle.health_laws.proofs.Modes.{modes}
 use Rattle.health_laws.proofs.Lasts.{found-is-last}
+use Rattle.health_laws.proofs.Newest.{newest-is-shown, newest-comes-back, newer-exchanged, newer-without-epoch}
 use Rattle.health_laws.proofs.Recordings.{last-in-science, none-in-science, last-in-health, none-in-health}
 use Rattle.command_laws.proofs.ReadBack.{given-back, accepted-alike, judged-alike}
 use Rattle.command_laws.proofs.WrittenAgain.{written-alike}
@@ -48,6 +49,10 @@ demand-2 =
       noneInScience = none-in-science;
       lastInHealth = last-in-health;
       noneInHealth = none-in-health;
+      newest = newest-is-shown;
+      newestWritten = newest-comes-back;
+      exchanged = newer-exchanged;
+      withoutEpoch = newer-without-epoch;
       command = given-back;
       accepted = accepted-alike;
       judged = judged-alike;

@@ -15,6 +15,7 @@ use Rattle.health_laws.specs.Written.{WrittenIsRead, SoundIsWritten}
 use Rattle.health_laws.specs.Fields.{ObservationIsRead, ChecksumsAreRead, UpsetsAreRead}
 use Rattle.health_laws.specs.Modes.{Modes}
 use Rattle.health_laws.specs.Last.{FoundIsLast}
+use Rattle.health_laws.specs.Newest.{NewestIsShown, NewestComesBack, NewerExchanged, NewerWithoutEpoch}
 use Rattle.health_laws.specs.Recordings.{LastInScience, NoneInScience, LastInHealth, NoneInHealth}
 use Rattle.command_laws.specs.Agree.{GivenBack, AcceptedAlike, JudgedAlike, WrittenAlike}
 use Rattle.event_laws.specs.Written.{EventsComeBack}
@@ -68,6 +69,12 @@ pub record Demand2 : Type 0 where
   pub noneInScience : NoneInScience
   pub lastInHealth : LastInHealth
   pub noneInHealth : NoneInHealth
+  -- of the last packets of two recordings the newer is shown, never a stale one, and it comes back as it was written; two times exchanged exchange the
+  -- answer, and where the counter stood does not matter
+  pub newest : NewestIsShown
+  pub newestWritten : NewestComesBack
+  pub exchanged : NewerExchanged
+  pub withoutEpoch : NewerWithoutEpoch
   -- ---- commands
 
   -- a written command is read with every field and byte

@@ -13,32 +13,22 @@ returns c =
 
 returns-2 : tie.Need-returns-2
 returns-2 c =
-    let chosen = c .before .before .before in
-    let tested = chosen .before .before .before .before in
+    let shown = c .before .before .before in
+    let tested = shown .before in
     let a = tested .before .before .before .before .args in
     c .refused2 .ensures
     ∙ none-refused (a .sync) (a .science .now) (a .packet-type) (a .health .now) (tested .before .judge .ensures) (tested .if1 .left)
-    (chosen .before .before .before .in-science .ensures) (chosen .before .in-row .ensures) (chosen .choose .ensures) (c .before .if2 .taken)
+    (shown .newest .ensures) (c .before .if2 .taken)
 
 returns-3 : tie.Need-returns-3
 returns-3 c =
-    let chosen = c .before .before in
-    let tested = chosen .before .before .before .before in
+    let shown = c .before .before in
+    let tested = shown .before in
     let a = tested .before .before .before .before .args in
     found-shown (a .sync) (a .science .now) (a .packet-type) (a .health .now) (tested .before .judge .ensures) (tested .if1 .left)
-    (chosen .before .before .before .in-science .ensures) (chosen .before .in-row .ensures) (chosen .choose .ensures) (c .if2 .left)
+    (shown .newest .ensures) (c .if2 .left)
 
 pub last-place-spec : {M : Type 1} → statement M
 last-place-spec =
     tie.close
-    (tie.spec
-    (λ c κs. search needs)
-    (λ c κs. search needs)
-    returns
-    (λ c κs. search needs)
-    (λ c. search needs)
-    (λ c κs. search needs)
-    (λ c κs. search needs)
-    (λ c κs. search needs)
-    returns-2
-    returns-3)
+    (tie.spec (λ c κs. search needs) (λ c κs. search needs) returns (λ c κs. search needs) (λ c κs. search needs) returns-2 returns-3)

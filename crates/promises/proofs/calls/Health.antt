@@ -1,8 +1,7 @@
 -- Each contract is the tie itself; each refusal is the first arm of `answer`, and the number stands in both arms.
 use Prim.Native.Nat.{ℕ}
-use mathlib.Core.Path.{_≡_, refl, ap, ap₂, _∙_}
-use mathlib.Core.Bool.{Bool, true, false, cond}
-use mathlib.Core.List.{List, [], _∷_}
+use mathlib.Core.Path.{_≡_, refl, ap, _∙_}
+use mathlib.Core.List.{List, []}
 use denote.Ref.{now}
 use Rattle.base.specs.Refusal.{settled}
 use Rattle.base.proofs.Refused.{answer-no, settled-refusal, answer-number}
@@ -15,8 +14,8 @@ use Rattle.health_checksums.specs.Checksums.{checksumsReply}
 use Rattle.health_upsets.specs.declared.UpsetTable.{UpsetTable}
 use Rattle.health_upsets.specs.Upsets.{upsetsReply}
 use Rattle.health_last.specs.declared.Place.{Place}
-use Rattle.health_last.specs.Packets.{foundAt, nowhere, later, lastWhere}
 use Rattle.health_last.specs.Last as last
+use Rattle.health_last.proofs.Placed.{newest-accepted}
 use Rattle.promises.specs.Ties.{Determined, Answers}
 use Rattle.promises.specs.calls.Health as calls
 use Rattle.promises.proofs.Ties.{determined, answers, both}
@@ -58,30 +57,11 @@ upsets =
     answers calls.upsets (λ κs a. tt) (λ κs a x e p. p) (λ κs a. refl) (λ κs a h. answer-no _ _ _ h)
     λ κs a. answer-number (λ (x : UpsetTable). x .refusal) _ _ _ refl (λ z. refl)
 
--- what is looked for is found at a place, or nowhere
-sought : {C : Type 0} (holds : ℕ → Bool) (ps : List ℕ) → (lastWhere holds ps ≡ nowhere → C) → ((p : ℕ) → lastWhere holds ps ≡ foundAt p → C) → C
-unfolding lastWhere
-sought holds [] none found = none refl
-sought {C} holds (p ∷ ps) none found =
-    sought holds ps (λ e. by-test (holds p) (ap (λ s. later s (cond (holds p) (foundAt p) nowhere)) e))
-    λ q e. found q (ap (λ s. later s (cond (holds p) (foundAt p) nowhere)) e)
-  where
-    by-test : (b : Bool) → lastWhere holds (p ∷ ps) ≡ cond b (foundAt p) nowhere → C
-    by-test true e = found p e
-    by-test false e = none e
-
--- so what is shown is no refusal
-shown-accepted : (f g : ℕ → Bool) (ps qs : List ℕ) → last.shown (lastWhere f ps) (lastWhere g qs) .refusal ≡ 0
-shown-accepted f g ps qs =
-    sought f ps
-    (λ e. sought g qs (λ d. ap₂ (λ s h. last.shown s h .refusal) e d) λ q d. ap₂ (λ s h. last.shown s h .refusal) e d)
-    λ p e. ap (λ s. last.shown s (lastWhere g qs) .refusal) e
-
 pub last-place : Answers calls.lastPlace
 unfolding last.lastPlaceReply
 last-place =
     answers calls.lastPlace (λ κs a. tt) (λ κs a x e p. p) (λ κs a. refl) (λ κs a h. answer-no _ _ _ h)
-    λ κs a. answer-number (λ (x : Place). x .refusal) _ _ _ refl (λ z. shown-accepted _ _ _ _)
+    λ κs a. answer-number (λ (x : Place). x .refusal) _ _ _ refl (λ z. newest-accepted _ _ _ _)
 
 -- where nothing is shown, no part of a recording is
 no-part : (v : ℕ) (science health : List ℕ) → last.partAt (last.place v 0 0) science health ≡ []

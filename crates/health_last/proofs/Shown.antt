@@ -1,0 +1,117 @@
+-- The packet that is shown: by what was found in each recording and, where that is a packet in both, by the number of the newer.
+use mathlib.Core.Path.{_≡_, refl, sym, ap, ap₂, _∙_}
+use mathlib.Core.Bool.{Bool, true, false, cond}
+use mathlib.Core.Logic.{_⊎_, inl, inr}
+use Prim.Native.Nat.{ℕ}
+use native.Mathlib.Omega.{arith}
+use lib.Dec.{eqb}
+use borrow.Author.Tests.{eq-eqb, ne-eqb}
+use Rattle.health_last.specs.declared.Sought.{Sought}
+use Rattle.health_last.specs.declared.Sought.the-variants.{At, Nowhere}
+use Rattle.health_last.specs.declared.Place.{Place}
+use Rattle.health_last.specs.Last.{place, placeIn, shown}
+
+-- ---- the choice between two places
+
+health-none : (a b : Sought) (n : ℕ) → placeIn 2 b .recording ≡ 0 → placeIn 1 a ≡ shown a b n
+unfolding placeIn shown
+health-none a (At q) n e = absurd (omega arith)
+health-none (At p) Nowhere n e = refl
+health-none Nowhere Nowhere n e = refl
+
+science-none : (a b : Sought) (n : ℕ) → placeIn 1 a .recording ≡ 0 → placeIn 2 b ≡ shown a b n
+unfolding placeIn shown
+science-none (At p) b n e = absurd (omega arith)
+science-none Nowhere b n e = refl
+
+both-there : (a b : Sought) (n : ℕ) → (placeIn 1 a .recording ≡ 0 → ⊥) → (placeIn 2 b .recording ≡ 0 → ⊥)
+    → shown a b n ≡ cond (eqb n 1) (placeIn 1 a) (cond (eqb n 2) (placeIn 2 b) (place 0 0 0))
+unfolding placeIn shown
+both-there (At p) (At q) n h k = refl
+both-there (At p) Nowhere n h k = absurd (k refl)
+both-there Nowhere b n h k = absurd (h refl)
+
+module _ (a b : Sought) (n : ℕ) {x y : Place} (ex : x ≡ placeIn 1 a) (ey : y ≡ placeIn 2 b) where
+  recording-x : x .recording ≡ placeIn 1 a .recording
+  recording-x = ap (λ (s : Place). s .recording) ex
+
+  recording-y : y .recording ≡ placeIn 2 b .recording
+  recording-y = ap (λ (s : Place). s .recording) ey
+
+  pub no-health : y .recording ≡ 0 → x ≡ shown a b n
+  no-health e = ex ∙ health-none a b n (sym recording-y ∙ e)
+
+  pub no-science : x .recording ≡ 0 → y ≡ shown a b n
+  no-science e = ey ∙ science-none a b n (sym recording-x ∙ e)
+
+  -- both have one: the number of the newer decides
+  module _ (h : x .recording ≡ 0 → ⊥) (k : y .recording ≡ 0 → ⊥) where
+    by-number : cond (eqb n 1) x (cond (eqb n 2) y (place 0 0 0)) ≡ shown a b n
+    by-number =
+        ap₂ (λ (s t : Place). cond (eqb n 1) s (cond (eqb n 2) t (place 0 0 0))) ex ey
+        ∙ sym (both-there a b n (λ z. h (recording-x ∙ z)) (λ z. k (recording-y ∙ z)))
+
+    pub science-newer : n ≡ 1 → x ≡ shown a b n
+    science-newer e = rw (eq-eqb n 1 e) at by-number
+
+    pub health-newer : (n ≡ 1 → ⊥) → n ≡ 2 → y ≡ shown a b n
+    health-newer d e = rw (ne-eqb n 1 d, eq-eqb n 2 e) at by-number
+
+    pub neither-newer : (n ≡ 1 → ⊥) → (n ≡ 2 → ⊥) → place 0 0 0 ≡ shown a b n
+    neither-newer d e = rw (ne-eqb n 1 d, ne-eqb n 2 e) at by-number
+
+-- ---- what is shown
+
+-- what is shown is one of the two places, or none
+shown-cases : (P : Place → Type 0) (a b : Sought) (n : ℕ) → P (placeIn 1 a) → P (placeIn 2 b) → P (place 0 0 0) → P (shown a b n)
+unfolding placeIn shown
+shown-cases P (At p) (At q) n x y z = by-tests (eqb n 1) (eqb n 2)
+  where
+    by-tests : (c d : Bool) → P (cond c (placeIn 1 (At p)) (cond d (placeIn 2 (At q)) (place 0 0 0)))
+    by-tests true d = x
+    by-tests false true = y
+    by-tests false false = z
+shown-cases P (At p) Nowhere n x y z = x
+shown-cases P Nowhere b n x y z = y
+
+place-accepted : (recording : ℕ) (a : Sought) → placeIn recording a .refusal ≡ 0
+unfolding placeIn
+place-accepted recording (At p) = refl
+place-accepted recording Nowhere = refl
+
+-- it is no refusal
+pub shown-accepted : (a b : Sought) (n : ℕ) → shown a b n .refusal ≡ 0
+shown-accepted a b n = shown-cases (λ s. s .refusal ≡ 0) a b n (place-accepted 1 a) (place-accepted 2 b) refl
+
+place-recording : (r : ℕ) (a : Sought) {C : Type 0} → (placeIn r a .recording ≡ 0 → C) → (placeIn r a .recording ≡ r → C) → C
+unfolding placeIn
+place-recording r (At p) none own = own refl
+place-recording r Nowhere none own = none refl
+
+-- it is in one of the two recordings, or in none
+pub shown-recordings : (a b : Sought) (n : ℕ) → (shown a b n .recording ≡ 0) ⊎ ((shown a b n .recording ≡ 1) ⊎ (shown a b n .recording ≡ 2))
+shown-recordings a b n =
+    shown-cases (λ s. (s .recording ≡ 0) ⊎ ((s .recording ≡ 1) ⊎ (s .recording ≡ 2))) a b n
+    (place-recording 1 a (λ z. inl z) (λ z. inr (inl z)))
+    (place-recording 2 b (λ z. inl z) (λ z. inr (inr z)))
+    (inl refl)
+
+-- a packet that is shown of a recording was found in it
+place-found : (r : ℕ) (a : Sought) → (placeIn r a .recording ≡ 0 → ⊥) → a ≡ At (placeIn r a .at)
+unfolding placeIn
+place-found r (At p) h = refl
+place-found r Nowhere h = absurd (h refl)
+
+pub pick-science : (a b : Sought) (n : ℕ) → shown a b n .recording ≡ 1 → a ≡ At (shown a b n .at)
+pick-science a b n =
+    shown-cases (λ s. s .recording ≡ 1 → a ≡ At (s .at)) a b n
+    (λ e. place-found 1 a (λ z. omega (arith, e, z)))
+    (λ e. absurd (place-recording 2 b (λ z. omega (arith, e, z)) (λ z. omega (arith, e, z))))
+    (λ e. absurd (omega (arith, e)))
+
+pub pick-health : (a b : Sought) (n : ℕ) → shown a b n .recording ≡ 2 → b ≡ At (shown a b n .at)
+pick-health a b n =
+    shown-cases (λ s. s .recording ≡ 2 → b ≡ At (s .at)) a b n
+    (λ e. absurd (place-recording 1 a (λ z. omega (arith, e, z)) (λ z. omega (arith, e, z))))
+    (λ e. place-found 2 b (λ z. omega (arith, e, z)))
+    (λ e. absurd (omega (arith, e)))
