@@ -32,24 +32,24 @@ both-there (At p) Nowhere n h k = absurd (k refl)
 both-there Nowhere b n h k = absurd (h refl)
 
 module _ (a b : Sought) (n : ℕ) {x y : Place} (ex : x ≡ placeIn 1 a) (ey : y ≡ placeIn 2 b) where
-  recording-x : x .recording ≡ placeIn 1 a .recording
-  recording-x = ap (λ (s : Place). s .recording) ex
+  science-recording : x .recording ≡ placeIn 1 a .recording
+  science-recording = ap (λ (s : Place). s .recording) ex
 
-  recording-y : y .recording ≡ placeIn 2 b .recording
-  recording-y = ap (λ (s : Place). s .recording) ey
+  health-recording : y .recording ≡ placeIn 2 b .recording
+  health-recording = ap (λ (s : Place). s .recording) ey
 
   pub no-health : y .recording ≡ 0 → x ≡ shown a b n
-  no-health e = ex ∙ health-none a b n (sym recording-y ∙ e)
+  no-health e = ex ∙ health-none a b n (sym health-recording ∙ e)
 
   pub no-science : x .recording ≡ 0 → y ≡ shown a b n
-  no-science e = ey ∙ science-none a b n (sym recording-x ∙ e)
+  no-science e = ey ∙ science-none a b n (sym science-recording ∙ e)
 
   -- both have one: the number of the newer decides
   module _ (h : x .recording ≡ 0 → ⊥) (k : y .recording ≡ 0 → ⊥) where
     by-number : cond (eqb n 1) x (cond (eqb n 2) y (place 0 0 0)) ≡ shown a b n
     by-number =
         ap₂ (λ (s t : Place). cond (eqb n 1) s (cond (eqb n 2) t (place 0 0 0))) ex ey
-        ∙ sym (both-there a b n (λ z. h (recording-x ∙ z)) (λ z. k (recording-y ∙ z)))
+        ∙ sym (both-there a b n (λ z. h (science-recording ∙ z)) (λ z. k (health-recording ∙ z)))
 
     pub science-newer : n ≡ 1 → x ≡ shown a b n
     science-newer e = rw (eq-eqb n 1 e) at by-number

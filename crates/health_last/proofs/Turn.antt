@@ -1,7 +1,7 @@
--- Times compared: the rule by how far the one lies after the other, and the difference of two words that wraps, which is how far.
+-- Times compared: the cases of the rule, by how far the one time lies after the other.
 use mathlib.Core.Path.{_≡_}
 use mathlib.Core.Logic.{_⊎_, inl, inr}
-use Prim.Native.Nat.{ℕ, _+_, _%_, _^_, _≤_, _<_}
+use Prim.Native.Nat.{ℕ, _≤_, _<_}
 use native.Mathlib.Omega.{arith}
 use borrow.Author.Tests.{eq-eqb, ne-eqb, le-leb, lt-leb}
 use Rattle.health_last.specs.Last.{ahead, newer}
@@ -24,7 +24,3 @@ module _ (s h : ℕ) where
         le-leb 1 (ahead s h) (omega (arith, k)),
         lt-leb (ahead s h) 32767 (omega (arith, k)),
       )
-
--- the difference of two words that wraps
-pub is-ahead : (s h d : ℕ) → s < 65536 → h < 65536 → d < 65536 → (d + s) % 2 ^ 16 ≡ h → ahead s h ≡ d
-is-ahead s h d a b c wraps = omega arith

@@ -13,7 +13,7 @@ ghost use Rattle.base.specs.Size.{packetWidth};
 ghost use Rattle.base.specs.Refusal.{verdict};
 ghost use Rattle.health.specs.Packet.{packetAt};
 ghost use Rattle.health_last.specs.declared.Sought.the-variants.{At};
-ghost use Rattle.health_last.specs.Last.{argumentCauses, refused, newer, timeAt, placeIn, shown, newest, lastPlaceReply, lastPacketReply};
+ghost use Rattle.health_last.specs.Last.{argumentCauses, refused, ahead, newer, timeAt, placeIn, shown, newest, lastPlaceReply, lastPacketReply};
 
 // a packet's time is its word 2
 const TIME: Words = Words(2);
@@ -56,12 +56,19 @@ fn time_at(words: &[u16], found: Sought) -> u16
     }
 }
 
+// How far the health recording's time lies after the science recording's, round the turn.
+fn ahead(science: u16, health: u16) -> u16
+    ensures { λ r. ⌜ r ≡ ahead science health ⌝ }
+{
+    num::wrapping_sub_u16(health, science)
+}
+
 // Which of two packets is newer by their times: the science recording's (1), at equal times too, the health recording's (2), or
 // neither (0), where they are exactly half a turn apart.
 fn newer(science: u16, health: u16) -> u8
     ensures { λ r. ⌜ r ≡ newer science health ⌝ }
 {
-    let ahead = num::wrapping_sub_u16(health, science);
+    let ahead = ahead(science, health);
     if ahead == 0 {
         return 1;
     }

@@ -14,7 +14,7 @@ use Rattle.chunk.specs.declared.Entry.{Entry}
 use Rattle.chunk.specs.Header.{kind, size, span}
 use Rattle.chunk.specs.Reading.{entry}
 use Rattle.chunk_laws.specs.Stretch.{Laid, words, offset, whole, wholeRow}
-use Rattle.chunk_laws.specs.Written.{Accepted, recorded}
+use Rattle.chunk_laws.specs.Written.{Accepted, written, recorded}
 use Rattle.chunk_laws.proofs.Rows.{entries, whole-length, row-first, row-rest, row-drop, lists-row}
 use Rattle.chunk_laws.proofs.Written.{laid, kind-written, accepted-taken, row-whole, recorded-words}
 use Rattle.health.specs.Packet.{packetType}
@@ -231,22 +231,6 @@ last-in-chunks sync ws at (b ∷ before) c after earlier p later k e carries n =
     )
     (ap foundAt (omega (arith, length-append (b .call .payload) (words sync (chunks before)), whole-length (chunk b) (first-whole sync ws at b cs k e))))
 
-stands-in-chunks : (sync : ℕ) (ws : List ℕ) (at : ℕ) (before : List Carrier) (c : Carrier) (after : List Carrier)
-    (earlier : List Packet) (p : Packet) (later : List Packet)
-    → wholeRow (chunks (before ++ c ∷ after)) ≡ true → drop at ws ≡ words sync (chunks (before ++ c ∷ after)) → c .carried ≡ earlier ++ p ∷ later
-    → take 32 (drop (at + offset sync (chunks before) + 2 + length (packets earlier)) ws) ≡ left p
-stands-in-chunks sync ws at [] c after earlier p later k e carries =
-    let here : at + 0 + 2 + length (packets earlier) ≡ at + 2 + length (packets earlier) = omega arith in
-    ap (λ (i : ℕ). take 32 (drop i ws)) here
-    ∙ stands-in-row ws (at + 2) earlier p later _ (rw carries at (packets-there sync ws at c after k e))
-stands-in-chunks sync ws at (b ∷ before) c after earlier p later k e carries =
-    let cs = before ++ c ∷ after in
-    let n = length (packets earlier) in
-    let further : at + offset sync (chunks (b ∷ before)) + 2 + n ≡ at + span (chunk b .header) + offset sync (chunks before) + 2 + n =
-    omega (arith, length-append (b .call .payload) (words sync (chunks before)), whole-length (chunk b) (first-whole sync ws at b cs k e)) in
-    ap (λ (i : ℕ). take 32 (drop i ws)) further
-    ∙ stands-in-chunks sync ws (at + span (chunk b .header)) before c after earlier p later (rest-whole sync ws at b cs k e) (rest-there sync ws at b cs k e) carries
-
 -- ---- so in a recording that the chunk writer wrote
 
 all-accepted : (cs : List Carrier) → Accepted (calls cs)
@@ -275,12 +259,22 @@ last-in-science sync before c after earlier p later carries n =
 pub none-in-science : NoneInScience
 none-in-science sync t cs n = by-entries sync cs t ∙ none-in-chunks t sync (words sync (chunks cs)) 0 cs (chunks-whole sync cs) refl n
 
+-- the packet itself stands there: past the words of the chunks before its own
+recorded-append : (sync : ℕ) (cs ds : List Carrier) → recorded sync (calls (cs ++ ds)) ≡ recorded sync (calls cs) ++ recorded sync (calls ds)
+recorded-append sync [] ds = refl
+recorded-append sync (c ∷ cs) ds =
+    let first = written sync (c .call) in
+    ap (λ (ws : List ℕ). first ++ ws) (recorded-append sync cs ds) ∙ sym (append-assoc first (recorded sync (calls cs)) (recorded sync (calls ds)))
+
 pub stands-in-science : (sync : ℕ) (before : List Carrier) (c : Carrier) (after : List Carrier) (earlier : List Packet) (p : Packet) (later : List Packet)
     → c .carried ≡ earlier ++ p ∷ later
     → take 32 (drop (length (recorded sync (calls before)) + 2 + length (packets earlier)) (recorded sync (calls (before ++ c ∷ after)))) ≡ left p
 stands-in-science sync before c after earlier p later carries =
-    let cs = before ++ c ∷ after in
-    let n = length (packets earlier) in
-    let here : length (recorded sync (calls before)) + 2 + n ≡ 0 + offset sync (chunks before) + 2 + n = omega (arith, ap length (as-chunks sync before)) in
-    rw (as-chunks sync cs, here)
-    (stands-in-chunks sync (words sync (chunks cs)) 0 before c after earlier p later (chunks-whole sync cs) refl carries)
+    let cs = c ∷ after in
+    let ws = recorded sync (calls (before ++ cs)) in
+    let at = length (recorded sync (calls before)) in
+    let there : drop at ws ≡ words sync (chunks cs) =
+    ap (drop at) (recorded-append sync before cs) ∙ drop-at (recorded sync (calls before)) (recorded sync (calls cs)) at refl ∙ as-chunks sync cs in
+    let rest = drop (length (packets (c .carried))) (c .call .payload ++ words sync (chunks after)) in
+    stands-in-row ws (at + 2) earlier p later rest
+    (packets-there sync ws at c after (chunks-whole sync cs) there ∙ ap (λ (ps : List Packet). packets ps ++ rest) carries)
