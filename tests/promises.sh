@@ -30,7 +30,7 @@ def public(crate):
         for line in path.read_text().splitlines():
             if line.startswith(('impl ', '}')):
                 owner = line.split()[1] + '::' if line.startswith('impl ') else ''
-            if found := re.match(r'\s*pub fn (\w+)', line):
+            if found := re.match(r'\s*pub (?:extern "C" )?fn (\w+)', line):
                 yield f'{prefix}::{owner}{found.group(1)}'
 
 

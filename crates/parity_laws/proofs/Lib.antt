@@ -2,3 +2,4 @@ pub mod Spot
 pub mod Flips
 pub mod Places
 pub mod SingleFlip
+pub mod Padded

@@ -28,7 +28,7 @@ use Rattle.parity_laws.proofs.Places.{data-flip-row, data-flip-column, 
 -- ---- what is found
 
 -- from the rows and the columns that differ
-finding-by-differences : (u : List ℕ) (f g : ℕ → ℕ) → ((r : ℕ) → r < 64 → rowDiffers u r ≡ f r) → ((c : ℕ) → c < 64 → columnDiffers u c ≡ g c)
+pub finding-by-differences : (u : List ℕ) (f g : ℕ → ℕ) → ((r : ℕ) → r < 64 → rowDiffers u r ≡ f r) → ((c : ℕ) → c < 64 → columnDiffers u c ≡ g c)
     → finding u ≡ fiveCases (sumAll 64 f) (sumAll 64 g) (firstOf 64 f) (firstOf 64 g) (length u - 8)
 unfolding finding
 finding-by-differences u f g p q = same (sum-cong 64 p) (sum-cong 64 q) (first-cong 64 p) (first-cong 64 q)

@@ -3,6 +3,7 @@ use Rattle.promises.specs.Demand1.{Calls, Total, Demand1}
 use Rattle.promises.proofs.calls.Base as base
 use Rattle.promises.proofs.calls.Crc as crc
 use Rattle.promises.proofs.calls.Parity as parity
+use Rattle.promises.proofs.calls.Exports as exports
 use Rattle.promises.proofs.calls.Chunk as chunk
 use Rattle.promises.proofs.calls.Register as register
 use Rattle.promises.proofs.calls.Health as health
@@ -25,6 +26,8 @@ calls =
       writeUnit = parity.write-unit;
       judgeUnit = parity.judge-unit;
       checkUnit = parity.check-unit;
+      hawserfenJudgeUnit = exports.judge-unit;
+      hawserfenCheckUnit = exports.check-unit;
       judgePacket = health.judge;
       readPacket = health.read-packet;
       writePacket = health.write-packet;

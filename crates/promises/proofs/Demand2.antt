@@ -6,6 +6,8 @@ use Rattle.chunk_laws.proofs.Answers.{check-tells, search-tells}
 use Rattle.chunk_laws.proofs.Written.{written-alone, written-in-rows}
 use Rattle.chunk_outline.proofs.Longest.{runs-are-longest, only-runs}
 use Rattle.parity_laws.proofs.SingleFlip.{written-is-sound, one-flip-is-repaired, arrived-hold}
+use Rattle.parity_laws.proofs.Padded.{taken-as-padded}
+use Rattle.exports.proofs.Bytes.{bytes-say-the-reply}
 use Rattle.health_laws.proofs.RoundTrip.{written-is-read, sound-is-written}
 use Rattle.health_laws.proofs.Fields.{observation-is-read, checksums-are-read, upsets-are-read}
 use Rattle.health_laws.proofs.Modes.{modes}
@@ -38,6 +40,8 @@ demand-2 =
       onlyRuns = only-runs;
       unit = written-is-sound;
       flip = one-flip-is-repaired;
+      padded = taken-as-padded;
+      inBytes = bytes-say-the-reply;
       packet = written-is-read;
       packets = sound-is-written;
       observation = observation-is-read;

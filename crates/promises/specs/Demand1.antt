@@ -5,6 +5,7 @@ use Rattle.promises.specs.Ties.{Determined, Answers}
 use Rattle.promises.specs.calls.Base as base
 use Rattle.promises.specs.calls.Crc as crc
 use Rattle.promises.specs.calls.Parity as parity
+use Rattle.promises.specs.calls.Exports as exports
 use Rattle.promises.specs.calls.Chunk as chunk
 use Rattle.promises.specs.calls.Register as register
 use Rattle.promises.specs.calls.Health as health
@@ -27,6 +28,8 @@ pub record Calls : Type 0 where
   pub writeUnit : Answers parity.writeUnit
   pub judgeUnit : Answers parity.judgeUnit
   pub checkUnit : Answers parity.checkUnit
+  pub hawserfenJudgeUnit : Answers exports.judgeUnit
+  pub hawserfenCheckUnit : Answers exports.checkUnit
   pub judgePacket : Answers health.judge
   pub readPacket : Answers health.readPacket
   pub writePacket : Answers health.writePacket

@@ -11,6 +11,8 @@ use Rattle.chunk_laws.specs.Answers.{CheckTells, SearchTells}
 use Rattle.chunk_laws.specs.Written.{WrittenAlone, WrittenInRows}
 use Rattle.chunk_outline.specs.Runs.{RunsAreLongest, OnlyRuns}
 use Rattle.parity_laws.specs.Units as units
+use Rattle.parity_laws.specs.Padded.{TakenAsPadded}
+use Rattle.exports.specs.Reply.{BytesSayTheReply}
 use Rattle.health_laws.specs.Written.{WrittenIsRead, SoundIsWritten}
 use Rattle.health_laws.specs.Fields.{ObservationIsRead, ChecksumsAreRead, UpsetsAreRead}
 use Rattle.health_laws.specs.Modes.{Modes}
@@ -52,6 +54,10 @@ pub record Demand2 : Type 0 where
   -- a written unit is sound; one bit of it flipped, in the parity or in the data, is named, and the data come back right
   pub unit : units.WrittenIsSound
   pub flip : units.OneFlipIsRepaired
+  -- the calls, which make no copy, answer and write what a copy padded with zeros to 256 words would give, and repair nothing in the padding
+  pub padded : TakenAsPadded
+  -- the number that C code is answered says the reply, byte by byte
+  pub inBytes : BytesSayTheReply
   -- ---- health packets
 
   -- a written packet is read with its type, time and words; a packet that is accepted is the very one that is written for them

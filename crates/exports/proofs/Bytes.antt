@@ -1,0 +1,110 @@
+-- Every part of a reply about a unit is below 256, so that the four bytes of the number are the four parts: the first row or column that differs is 64 at
+-- the most, and a data bit that is found lies in the unit.
+use mathlib.Core.Path.{_≡_, refl, sym, subst}
+use mathlib.Core.Bool.{Bool, true, false, cond, _&&_}
+use mathlib.Core.List.{List, [], _∷_}
+use Prim.Native.Nat.{ℕ, zero, suc, _+_, _-_, _*_, _/_, _%_, _<_, _≤_}
+use native.Mathlib.Omega.{arith}
+use lib.Dec.{ltb, eqb}
+use lib.ListN.{length}
+use borrow.Author.Tests.{ltb-true, eqb-true, eqb-false}
+use Rattle.base.specs.Refusal.{Causes, verdict, answer}
+use Rattle.base.proofs.Booleans.{and-left, and-right, by-test}
+use Rattle.base.proofs.Refused.{answer-no, answer-yes, spared}
+use Rattle.parity.specs.declared.Judged.{Judged}
+use Rattle.parity.specs.Unit.{Finding, sound, parityBit, dataBit, neither, rowDiffers, columnDiffers, sumAll, firstOf, fiveCases, finding, named, refused, judgeCauses, judgeVerdict, judgeReply, checkCauses, checkVerdict, checkReply}
+use Rattle.parity.proofs.Judging.{between}
+use Rattle.exports.specs.Reply.{inBytes, Says, BytesSayTheReply}
+
+-- each part is a byte
+pub record Small (j : Judged) : Type 0 where
+  pub refusal : j .refusal < 256
+  pub case : j .case < 256
+  pub bit : j .bit < 256
+  pub word : j .word .0 < 256
+
+-- ---- what is found
+
+first-le : (n : ℕ) (f : ℕ → ℕ) → firstOf n f ≤ n
+unfolding firstOf
+first-le zero f = omega arith
+first-le (suc n) f = by-first (eqb (f 0) 0) (first-le n (λ i. f (suc i)))
+  where
+    by-first : (t : Bool) → firstOf n (λ i. f (suc i)) ≤ n → elim t [ true ↦ suc (firstOf n (λ i. f (suc i))) | false ↦ 0 ] ≤ suc n
+    by-first true h = omega arith
+    by-first false h = omega arith
+
+module _ (k : ℕ) (most : k ≤ 256) where
+  either : (t : Bool) (f g : Finding) → (t ≡ true → Small (named f k)) → Small (named g k) → Small (named (cond t f g) k)
+  either true f g p q = p refl
+  either false f g p q = q
+
+  module _ (R C row column : ℕ) (h : row ≤ 64) (i : column ≤ 64) where
+    abbrev word : ℕ
+    word = 4 * row + column / 16
+
+    small-cases : Small (named (fiveCases R C row column k) k)
+    unfolding fiveCases
+    small-cases =
+        either (eqb R 0 && eqb C 0) sound _ (λ _. record { refusal = omega arith; case = omega arith; bit = omega arith; word = omega arith })
+        (either (eqb R 1 && eqb C 0) (parityBit (row / 16) (15 - row % 16)) _
+        (λ _. record { refusal = omega arith; case = omega arith; bit = omega arith; word = omega (arith, h) })
+        (either (eqb R 0 && eqb C 1) (parityBit (4 + column / 16) (15 - column % 16)) _
+        (λ _. record { refusal = omega arith; case = omega arith; bit = omega arith; word = omega (arith, i) })
+        (either (eqb R 1 && eqb C 1 && ltb word k) (dataBit word (15 - column % 16)) neither
+        (λ e.
+        let below = ltb-true word k (and-right (eqb R 1 && eqb C 1) (ltb word k) e) in
+        record { refusal = omega arith; case = omega arith; bit = omega arith; word = omega (arith, below, most) })
+        (record { refusal = omega arith; case = omega arith; bit = omega arith; word = omega arith }))))
+
+small-finding : (u : List ℕ) → length u - 8 ≤ 256 → Small (named (finding u) (length u - 8))
+unfolding finding
+small-finding u h =
+    small-cases (length u - 8) h (sumAll 64 (rowDiffers u)) (sumAll 64 (columnDiffers u)) (firstOf 64 (rowDiffers u)) (firstOf 64 (columnDiffers u))
+    (first-le 64 (rowDiffers u)) (first-le 64 (columnDiffers u))
+
+-- ---- what is replied
+
+-- each cause's number is a byte; `refl` shows it of a list that is written out
+abbrev bytes : Causes → Bool
+bytes [] = true
+bytes (c ∷ cs) = ltb (c .0) 256 && bytes cs
+
+small-verdict : (cs : Causes) → bytes cs ≡ true → verdict cs < 256
+small-verdict [] e = omega arith
+small-verdict ((n, true) ∷ cs) e = ltb-true n 256 (and-left (ltb n 256) (bytes cs) e)
+small-verdict ((n, false) ∷ cs) e = small-verdict cs (and-right (ltb n 256) (bytes cs) e)
+
+small-answer : (v : ℕ) (j : Judged) → v < 256 → (v ≡ 0 → Small j) → Small (answer v refused j)
+small-answer v j h p =
+    by-test (eqb v 0) (λ t. let z = eqb-true v 0 t in subst Small (sym (answer-yes v refused j z)) (p z))
+    (λ t.
+    subst Small (sym (answer-no v refused j (eqb-false v 0 t)))
+    (record { refusal = h; case = omega arith; bit = omega arith; word = omega arith }))
+
+pub small-judged : (u : List ℕ) → Small (judgeReply u)
+unfolding judgeReply judgeVerdict
+small-judged u =
+    small-answer (judgeVerdict u) (named (finding u) (length u - 8)) (small-verdict (judgeCauses u) refl)
+    (λ z. small-finding u (omega (arith, between 9 264 (length u) (spared (judgeCauses u) refl z .0) .1)))
+
+pub small-checked : (u : List ℕ) (m : ℕ) → Small (checkReply u m)
+unfolding checkReply checkVerdict
+small-checked u m =
+    small-answer (checkVerdict u m) (named (finding u) (length u - 8)) (small-verdict (checkCauses u m) refl)
+    (λ z. small-finding u (omega (arith, between 9 264 (length u) (spared (checkCauses u m) refl z .0) .1)))
+
+-- ---- the number
+
+says : (j : Judged) → Small j → Says j
+unfolding inBytes
+says j s =
+    record {
+      refusal = omega (arith, s .refusal, s .case, s .bit, s .word);
+      case = omega (arith, s .refusal, s .case, s .bit, s .word);
+      bit = omega (arith, s .refusal, s .case, s .bit, s .word);
+      word = omega (arith, s .refusal, s .case, s .bit, s .word);
+    }
+
+pub bytes-say-the-reply : BytesSayTheReply
+bytes-say-the-reply = record { judged = λ u. says (judgeReply u) (small-judged u); checked = λ u m. says (checkReply u m) (small-checked u m) }
