@@ -20,6 +20,8 @@ emulator=$tools/bin/qemu-x86_64
 [ -x "$emulator" ] || emulator=''
 
 rt staticlib exports >"$work/said" 2>&1 || { cat "$work/said"; fail 'exports was not built'; }
+archive=target/staticlib/libexports.a
+"$tools/bin/ld.lld" -shared --no-undefined --whole-archive "$archive" -o "$work/alone" || fail 'exports needs something else linked'
 
 compile() { # NAME
     "$clang" --target=x86_64-unknown-linux-gnu -nostdinc -isystem tests/stack/include -I crates/exports -std=c11 -Wall -Wextra -Werror -O3 -fPIC \
@@ -30,7 +32,7 @@ compile() { # NAME
 run() { # NAME
     compile "$1"
     "$kit/bin/rattle-link" --target x86_64-unknown-linux-gnu --toolchain "$tools" -o "$work/$1" "$work/$1.o" "$work/cases.o" "$work/padded.o" \
-        target/staticlib/libexports.a 2>"$work/said" || { cat "$work/said"; fail "$1 was not linked"; }
+        "$archive" 2>"$work/said" || { cat "$work/said"; fail "$1 was not linked"; }
     ${emulator:+"$emulator"} "$tools/lib/ld-linux-x86-64.so.2" --library-path "$tools/lib" "$work/$1" || fail "$1: status $?"
 }
 

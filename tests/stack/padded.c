@@ -1,5 +1,5 @@
-/* A plain check of a parity unit, written from the rules alone and sharing nothing with the library: it keeps a copy of the
-   data, padded with zeros to 256 words, and goes through it bit by bit. */
+/* A plain check of a parity unit, written from the rules alone and sharing nothing with the library: it keeps a copy of
+   the data, padded with zeros to 256 words, and goes through it bit by bit. */
 #include "padded.h"
 
 #include <string.h>
@@ -40,10 +40,9 @@ static void pad(const uint16_t *given, size_t k, uint16_t data[DATA_WORDS])
     memcpy(data, given, k * sizeof data[0]);
 }
 
-/* Even parity of every row and column: each set data bit turns over the parity
-   bit of its row (bits 0 to 63) and that of its column (bits 64 to 127). */
-static void make_parity(const uint16_t data[DATA_WORDS],
-                        uint16_t parity[PARITY_WORDS])
+/* Even parity of every row and column: each set data bit turns over the parity bit of its row (bits 0 to 63) and that
+   of its column (bits 64 to 127). */
+static void make_parity(const uint16_t data[DATA_WORDS], uint16_t parity[PARITY_WORDS])
 {
     memset(parity, 0, PARITY_WORDS * sizeof parity[0]);
     for (unsigned row = 0; row < ROWS; row++) {
@@ -56,10 +55,8 @@ static void make_parity(const uint16_t data[DATA_WORDS],
     }
 }
 
-/* Leaves a parity bit set exactly where the unit's own parity differs from
-   that of the data. */
-static void compare_parity(const uint16_t *stored,
-                           uint16_t parity[PARITY_WORDS])
+/* Leaves a parity bit set exactly where the unit's own parity differs from that of the data. */
+static void compare_parity(const uint16_t *stored, uint16_t parity[PARITY_WORDS])
 {
     for (unsigned word = 0; word < PARITY_WORDS; word++) {
         parity[word] ^= stored[word];
@@ -89,15 +86,13 @@ static struct padded_reply refuse(unsigned cause)
 /* An accepted unit with one bit hit, numbered from the top bit of word 0. */
 static struct padded_reply hit_at(unsigned hit, unsigned index)
 {
-    struct padded_reply reply = { ACCEPTED, hit, index / WORD_BITS,
-                                  15 - index % WORD_BITS };
+    struct padded_reply reply = { ACCEPTED, hit, index / WORD_BITS, 15 - index % WORD_BITS };
     return reply;
 }
 
-/* Nothing differs: sound.  One line alone: its parity bit was hit.  One row and
-   one column: the data bit where they cross, if it is not padding.  Else 6. */
-static struct padded_reply judge(struct differing rows,
-                                 struct differing columns, size_t k)
+/* Nothing differs: sound. One line alone: its parity bit was hit. One row and one column: the data bit where they
+   cross, if it is not padding. Else 6. */
+static struct padded_reply judge(struct differing rows, struct differing columns, size_t k)
 {
     struct padded_reply sound = { ACCEPTED, SOUND, 0, 0 };
     unsigned crossing = rows.last * COLUMNS + columns.last;
@@ -117,10 +112,9 @@ static struct padded_reply judge(struct differing rows,
     return refuse(BAD_PATTERN);
 }
 
-/* The causes of refusal are tried in the order 1, 6, 3; only when none applies
-   is the room touched, and then only its first k words. */
-struct padded_reply padded_check(const uint16_t *unit, size_t words,
-                                 uint16_t *room, size_t room_words)
+/* The causes of refusal are tried in the order 1, 6, 3; only when none applies is the room touched, and then only its
+   first k words. */
+struct padded_reply padded_check(const uint16_t *unit, size_t words, uint16_t *room, size_t room_words)
 {
     uint16_t data[DATA_WORDS], parity[PARITY_WORDS];
 
@@ -148,8 +142,8 @@ struct padded_reply padded_check(const uint16_t *unit, size_t words,
     return reply;
 }
 
-/* The unit is the parity of the padded data, then the k data words themselves.
-   No unit has fewer than 1 or more than 256 data words. */
+/* The unit is the parity of the padded data, then the k data words themselves. No unit has fewer than 1 or more than
+   256 data words. */
 void padded_write(const uint16_t *data, size_t k, uint16_t *unit)
 {
     uint16_t padded[DATA_WORDS], parity[PARITY_WORDS];

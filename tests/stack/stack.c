@@ -18,11 +18,15 @@ enum {
     /* a padded copy has as many, and the plain check that keeps one must be seen to take more */
     COPY = DATA * sizeof(uint16_t),
     RETURN_ADDRESS = 8,
+    /* so many bytes below the stack pointer are looked at after each call, and so many below those at the end */
     AREA = 4096,
+    BELOW = 65536,
     TRIES = 8
 };
 
-static unsigned char area[AREA] __attribute__((aligned(16)));
+static unsigned char stack[BELOW + AREA] __attribute__((aligned(16)));
+static unsigned char *const area = stack + BELOW;
+static const unsigned char patterns[] = { 0x00, 0xA5 };
 
 typedef void call(void);
 
@@ -63,19 +67,25 @@ static struct measured padded = { "a plain check in C with a padded copy", (call
 
 static unsigned long met[OUTCOMES];
 
+/* How many bytes from here on hold the pattern still. */
+static size_t untouched(const unsigned char *from, size_t bytes, unsigned char pattern)
+{
+    size_t count = 0;
+    while (count < bytes && from[count] == pattern) {
+        count++;
+    }
+    return count;
+}
+
 static void measure(struct measured *m, const uint16_t *unit, size_t words, size_t room_words)
 {
-    static const unsigned char patterns[] = { 0x00, 0xA5 };
     uint16_t room[DATA + SPARE];
     for (size_t i = 0; i < sizeof patterns; i++) {
         memset(area, patterns[i], AREA);
         call_at(area + AREA, m->function, unit, words, room, room_words);
-        size_t untouched = 0;
-        while (untouched < AREA && area[untouched] == patterns[i]) {
-            untouched++;
-        }
-        if (AREA - untouched > m->bytes) {
-            m->bytes = AREA - untouched;
+        size_t bytes = AREA - untouched(area, AREA, patterns[i]);
+        if (bytes > m->bytes) {
+            m->bytes = bytes;
         }
     }
 }
@@ -119,14 +129,17 @@ static void one_length(size_t words)
     }
 }
 
-/* Whether the measurement itself is right: an empty function takes its return address and no more, and a copy is seen. */
+/* Whether the measurement itself is right: an empty function takes its return address and no more, a copy is seen, and no
+   call went deeper than is looked at. */
 static int trusted(void)
 {
+    size_t deeper = BELOW - untouched(stack, BELOW, patterns[1]);
     printf("stack: %s: %lu bytes\n", padded.name, (unsigned long)padded.bytes);
-    if (empty.bytes == RETURN_ADDRESS && padded.bytes > COPY) {
+    if (empty.bytes == RETURN_ADDRESS && padded.bytes > COPY && deeper == 0) {
         return 1;
     }
-    printf("stack: the measurement is wrong: %s: %lu bytes\n", empty.name, (unsigned long)empty.bytes);
+    printf("stack: the measurement is wrong: %s: %lu bytes; %lu more below the area\n", empty.name, (unsigned long)empty.bytes,
+        (unsigned long)deeper);
     return 0;
 }
 
@@ -138,6 +151,7 @@ static int within(struct measured m, size_t limit)
 
 int main(void)
 {
+    memset(stack, patterns[1], BELOW);
     for (size_t words = 0; words <= LONGEST; words++) {
         one_length(words);
     }

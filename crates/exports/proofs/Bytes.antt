@@ -107,4 +107,10 @@ says j s =
     }
 
 pub bytes-say-the-reply : BytesSayTheReply
-bytes-say-the-reply = record { judged = λ u. says (judgeReply u) (small-judged u); checked = λ u m. says (checkReply u m) (small-checked u m) }
+unfolding inBytes
+bytes-say-the-reply =
+    record {
+      judged = λ u. says (judgeReply u) (small-judged u);
+      checked = λ u m. says (checkReply u m) (small-checked u m);
+      example = refl;
+    }

@@ -1,4 +1,4 @@
-// The check of a parity unit for C code to link. For C a slice is two arguments, a pointer and a number of words, and a reply is one number.
+// The check of a parity unit for C code to link. To C a slice is two arguments, a pointer and a number of words, and a reply is one number.
 use parity::Judged;
 ghost use mathlib.Core.Path.{_≡_};
 ghost use Prim.Native.Nat.{_<_};
@@ -14,7 +14,7 @@ fn in_bytes(r: Judged) -> u32
     ((r.refusal as u32 * 256 + r.case as u32) * 256 + r.bit as u32) * 256 + r.word.0 as u32
 }
 
-// `parity::judge_unit`
+// The unit judge: what stands in a unit, without its data.
 #[no_mangle]
 pub extern "C" fn hawserfen_judge_unit(unit: &[u16]) -> u32
     ensures { λ r. ⌜ r ≡ inBytes (judgeReply (now (unit .entry))) ⌝ }
@@ -22,7 +22,7 @@ pub extern "C" fn hawserfen_judge_unit(unit: &[u16]) -> u32
     in_bytes(parity::judge_unit(unit))
 }
 
-// `parity::check_unit`
+// The unit checker: the data to the room too, repaired where a data bit was hit.
 #[no_mangle]
 pub extern "C" fn hawserfen_check_unit(unit: &[u16], room: &mut [u16]) -> u32
     ensures { λ r. ⌜ r ≡ inBytes (checkReply (now (unit .entry)) (length (now (room .entry)))) ⌝ }

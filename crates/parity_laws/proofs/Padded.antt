@@ -2,16 +2,22 @@
 -- is computed of the data; and as what is found is the same, a repair lies in the data, which are the copy's front.
 use mathlib.Core.Path.{_≡_, refl, sym, ap, ap₂, subst, _∙_}
 use mathlib.Core.List.{List, [], _∷_, _++_}
-use Prim.Native.Nat.{ℕ, zero, suc, _+_, _-_, _*_, _^_}
+use Prim.Native.Nat.{ℕ, zero, suc, _+_, _-_, _*_, _^_, _<_}
 use native.Mathlib.Omega.{arith}
+use lib.Dec.{eqb}
 use lib.ListN.{length, getD, set, take, drop, replicate, length-append, length-replicate, length-drop, length-set, List·getD-append}
 use lib.Seq.{take-append-seam, set-append-left}
+use borrow.Author.Tests.{eqb-true, eqb-false}
 use Rattle.base.specs.Xor.{_xor_}
+use Rattle.base.specs.Refusal.{answer}
+use Rattle.base.proofs.Booleans.{by-test}
+use Rattle.base.proofs.Refused.{answer-yes, answer-no}
 use Rattle.parity_rows.specs.Parity.{bitFrom, rowParity, columnParity, rowWord, columnWord, parityWords}
 use Rattle.parity_rows.proofs.Folds.{xor-cong, number-cong}
-use Rattle.parity.specs.Unit.{unitOf, flipped, rowDiffers, columnDiffers, Finding, sound, parityBit, dataBit, neither, finding, repaired, unitData, judgeVerdict, judgeReply, checkVerdict, checkReply, checkRoom, writeRoom}
+use Rattle.parity.specs.declared.Judged.{Judged}
+use Rattle.parity.specs.Unit.{unitOf, flipped, rowDiffers, columnDiffers, Finding, sound, parityBit, dataBit, neither, finding, repaired, unitData, named, refused, judgeVerdict, judgeReply, checkVerdict, checkReply, checkRoom, writeRoom}
 use Rattle.parity.proofs.Cases.{Within, data-within}
-use Rattle.parity_laws.specs.Padded.{padded, dataPadded, findingPadded, judgePadded, checkPadded, checkRoomPadded, writeRoomPadded, PaddedIsWhole, FoundAsPadded, RepairIsOfTheData, TakenAsPadded}
+use Rattle.parity_laws.specs.Padded.{padded, dataPadded, findingPadded, judgeReplyPadded, checkReplyPadded, checkRoomPadded, writeRoomPadded, PaddedIsWhole, FoundAsPadded, TakenAsPadded}
 use Rattle.parity_laws.proofs.SingleFlip.{finding-by-differences}
 
 -- ---- a word and a bit of the copy
@@ -87,32 +93,58 @@ found u =
     sym
     (finding-by-differences u _ _ (λ r p. ap (λ (x : ℕ). bitFrom u 0 r xor x) (sym (row d r))) (λ c p. ap (λ (x : ℕ). bitFrom u 4 c xor x) (sym (column d c))))
 
-judged : (u : List ℕ) → judgeReply u ≡ judgePadded u
-unfolding judgeReply judgeVerdict judgePadded
+judged : (u : List ℕ) → judgeReplyPadded u ≡ judgeReply u
+unfolding judgeReply judgeVerdict judgeReplyPadded
 judged u = simp (found u)
 
-checked : (u : List ℕ) (m : ℕ) → checkReply u m ≡ checkPadded u m
-unfolding checkReply checkVerdict checkPadded
+checked : (u : List ℕ) (m : ℕ) → checkReplyPadded u m ≡ checkReply u m
+unfolding checkReply checkVerdict checkReplyPadded
 checked u m = simp (found u)
 
-data-from-copy : (u : List ℕ) → unitData u ≡ take (length u - 8) (repaired (findingPadded u) (dataPadded u))
+data-from-copy : (u : List ℕ) → take (length u - 8) (repaired (findingPadded u) (dataPadded u)) ≡ unitData u
 unfolding unitData padded
 data-from-copy u =
     let d = drop 8 u in
-    sym
-    (ap₂ (λ (n : ℕ) (f : Finding). take n (repaired f (padded d))) (sym (length-drop 8 u)) (found u)
-    ∙ front (finding u) d _ (subst (λ (k : ℕ). Within k (finding u)) (sym (length-drop 8 u)) (data-within u)))
+    ap₂ (λ (n : ℕ) (f : Finding). take n (repaired f (padded d))) (sym (length-drop 8 u)) (found u)
+    ∙ front (finding u) d _ (subst (λ (k : ℕ). Within k (finding u)) (sym (length-drop 8 u)) (data-within u))
 
-checked-room : (u room : List ℕ) → checkRoom u room ≡ checkRoomPadded u room
+checked-room : (u room : List ℕ) → checkRoomPadded u room ≡ checkRoom u room
 unfolding checkRoom checkVerdict checkRoomPadded
 checked-room u room = simp (data-from-copy u) (simp (found u))
 
-written-room : (d room : List ℕ) → writeRoom d room ≡ writeRoomPadded d room
+written-room : (d room : List ℕ) → writeRoomPadded d room ≡ writeRoom d room
 unfolding writeRoom writeRoomPadded unitOf
 written-room d room = simp (words d)
 
-repair : RepairIsOfTheData
-repair u w b e = subst (Within (length u - 8)) (sym (found u) ∙ e) (data-within u) .0
+-- ---- where a repair lies
+
+found-in-data : (u : List ℕ) (w b : ℕ) → findingPadded u ≡ dataBit w b → w < length u - 8
+found-in-data u w b e = subst (Within (length u - 8)) (sym (found u) ∙ e) (data-within u) .0
+
+-- of a reply: where it names a data bit, it lies in the data
+abbrev InData : ℕ → Judged → Type 0
+InData k j = j .case ≡ 2 → j .word .0 < k
+
+named-in-data : (k : ℕ) (f : Finding) → Within k f → InData k (named f k)
+named-in-data k sound i e = absurd (omega (arith, e))
+named-in-data k (parityBit w b) i e = absurd (omega (arith, e))
+named-in-data k (dataBit w b) i e = i .0
+named-in-data k neither i e = absurd (omega (arith, e))
+
+answered-in-data : (v : ℕ) (u : List ℕ) → InData (length u - 8) (answer v refused (named (finding u) (length u - 8)))
+answered-in-data v u =
+    let k = length u - 8 in
+    by-test (eqb v 0)
+    (λ t. subst (InData k) (sym (answer-yes v refused _ (eqb-true v 0 t))) (named-in-data k (finding u) (data-within u)))
+    (λ t. subst (InData k) (sym (answer-no v refused _ (eqb-false v 0 t))) (λ e. absurd (omega (arith, e))))
+
+judged-in-data : (u : List ℕ) → InData (length u - 8) (judgeReply u)
+unfolding judgeReply
+judged-in-data u = answered-in-data (judgeVerdict u) u
+
+checked-in-data : (u : List ℕ) (m : ℕ) → InData (length u - 8) (checkReply u m)
+unfolding checkReply
+checked-in-data u m = answered-in-data (checkVerdict u m) u
 
 pub taken-as-padded : TakenAsPadded
 taken-as-padded =
@@ -121,5 +153,5 @@ taken-as-padded =
       parity = record { row = row; column = column; words = words };
       found = found;
       answered = record { judged = judged; checked = checked; checkedRoom = checked-room; writtenRoom = written-room };
-      repair = repair;
+      repair = record { found = found-in-data; judged = judged-in-data; checked = checked-in-data };
     }

@@ -34,15 +34,15 @@ findingPadded u =
 abbrev pub judgeCausesPadded : List ℕ → Causes
 judgeCausesPadded u = (wrongLength, notUnit (length u)) ∷ (wrongParity, isNeither (findingPadded u)) ∷ []
 
-unfoldable pub judgePadded : List ℕ → Judged
-judgePadded u = answer (verdict (judgeCausesPadded u)) refused (named (findingPadded u) (length u - parityWidth))
+unfoldable pub judgeReplyPadded : List ℕ → Judged
+judgeReplyPadded u = answer (verdict (judgeCausesPadded u)) refused (named (findingPadded u) (length u - parityWidth))
 
 -- the checker's, in a room of m words
 abbrev pub checkCausesPadded : List ℕ → ℕ → Causes
 checkCausesPadded u m = judgeCausesPadded u ++ (noRoom, ltb m (length u - parityWidth)) ∷ []
 
-unfoldable pub checkPadded : List ℕ → ℕ → Judged
-checkPadded u m = answer (verdict (checkCausesPadded u m)) refused (named (findingPadded u) (length u - parityWidth))
+unfoldable pub checkReplyPadded : List ℕ → ℕ → Judged
+checkReplyPadded u m = answer (verdict (checkCausesPadded u m)) refused (named (findingPadded u) (length u - parityWidth))
 
 -- the bit is flipped back in the copy, and the k words at its front go to the room
 unfoldable pub checkRoomPadded : List ℕ → List ℕ → List ℕ
@@ -70,16 +70,18 @@ pub record ParityAsPadded : Type 0 where
 abbrev pub FoundAsPadded : Type 0
 FoundAsPadded = (u : List ℕ) → findingPadded u ≡ finding u
 
--- and so the calls reply, and leave in the room, what a padded copy would give
+-- and so a padded copy would give what the calls reply and leave in the room
 pub record AnsweredAsPadded : Type 0 where
-  pub judged : (u : List ℕ) → judgeReply u ≡ judgePadded u
-  pub checked : (u : List ℕ) (m : ℕ) → checkReply u m ≡ checkPadded u m
-  pub checkedRoom : (u room : List ℕ) → checkRoom u room ≡ checkRoomPadded u room
-  pub writtenRoom : (d room : List ℕ) → writeRoom d room ≡ writeRoomPadded d room
+  pub judged : (u : List ℕ) → judgeReplyPadded u ≡ judgeReply u
+  pub checked : (u : List ℕ) (m : ℕ) → checkReplyPadded u m ≡ checkReply u m
+  pub checkedRoom : (u room : List ℕ) → checkRoomPadded u room ≡ checkRoom u room
+  pub writtenRoom : (d room : List ℕ) → writeRoomPadded d room ≡ writeRoom d room
 
--- a repair never lies in the padding
-abbrev pub RepairIsOfTheData : Type 0
-RepairIsOfTheData = (u : List ℕ) (w b : ℕ) → findingPadded u ≡ dataBit w b → w < length u - parityWidth
+-- a repair never lies in the padding: a data bit that is found, or that a call names, is in one of the k words that came
+pub record RepairIsOfTheData : Type 0 where
+  pub found : (u : List ℕ) (w b : ℕ) → findingPadded u ≡ dataBit w b → w < length u - parityWidth
+  pub judged : (u : List ℕ) → judgeReply u .case ≡ 2 → judgeReply u .word .0 < length u - parityWidth
+  pub checked : (u : List ℕ) (m : ℕ) → checkReply u m .case ≡ 2 → checkReply u m .word .0 < length u - parityWidth
 
 -- all of these
 pub record TakenAsPadded : Type 0 where

@@ -56,7 +56,7 @@ pub record Demand2 : Type 0 where
   pub flip : units.OneFlipIsRepaired
   -- the calls, which make no copy, answer and write what a copy padded with zeros to 256 words would give, and repair nothing in the padding
   pub padded : TakenAsPadded
-  -- the number that C code is answered says the reply, byte by byte
+  -- the number that C code is answered says the reply, byte by byte, but for k
   pub inBytes : BytesSayTheReply
   -- ---- health packets
 
