@@ -1,5 +1,5 @@
 -- Laws of verdicts and answers.
-use mathlib.Core.Path.{_≡_, refl, sym, ap, _∙_}
+use mathlib.Core.Path.{_≡_, refl, sym, subst, _∙_}
 use mathlib.Core.Bool.{Bool, true, false, cond, _&&_}
 use mathlib.Core.List.{List, [], _∷_, _++_}
 use Prim.Native.Nat.{ℕ}
@@ -63,11 +63,15 @@ verdict-then [] n b k = refl
 verdict-then ((m, true) ∷ cs) n b k = sym (answer-no m (λ v. v) _ (λ z. omega (arith, z, ltb-true 0 m (and-left (ltb 0 m) _ k))))
 verdict-then ((m, false) ∷ cs) n b k = verdict-then cs n b (and-right (ltb 0 m) _ k)
 
+-- what holds of the refusal, and of what is given where nothing is refused, holds of the answer
+pub answer-either : {A : Type 0} (P : A → Type 0) (v : ℕ) (f : ℕ → A) (a : A) → P (f v) → (v ≡ 0 → P a) → P (answer v f a)
+answer-either P v f a p q =
+    by-test (eqb v 0) (λ t. let z = eqb-true v 0 t in subst P (sym (answer-yes v f a z)) (q z))
+    (λ t. subst P (sym (answer-no v f a (eqb-false v 0 t))) p)
+
 -- the number in an answer is the verdict, where each refusal has its own and what is given has 0
 pub answer-number : {A : Type 0} (number : A → ℕ) (v : ℕ) (f : ℕ → A) (a : A) → number (f v) ≡ v → (v ≡ 0 → number a ≡ 0) → number (answer v f a) ≡ v
-answer-number number v f a p q =
-    by-test (eqb v 0) (λ t. let z = eqb-true v 0 t in ap number (answer-yes v f a z) ∙ q z ∙ sym z)
-    (λ t. ap number (answer-no v f a (eqb-false v 0 t)) ∙ p)
+answer-number number v f a p q = answer-either (λ x. number x ≡ v) v f a p (λ z. q z ∙ sym z)
 
 -- the number in a writer's reply, and the length where nothing is refused
 pub settled-refusal : (v n : ℕ) → settled v n .refusal ≡ v

@@ -1,16 +1,16 @@
 -- Every part of a reply about a unit is below 256, so that the four bytes of the number are the four parts: the first row or column that differs is 64 at
 -- the most, and a data bit that is found lies in the unit.
-use mathlib.Core.Path.{_≡_, refl, sym, subst}
+use mathlib.Core.Path.{_≡_, refl}
 use mathlib.Core.Bool.{Bool, true, false, cond, _&&_}
 use mathlib.Core.List.{List, [], _∷_}
 use Prim.Native.Nat.{ℕ, zero, suc, _+_, _-_, _*_, _/_, _%_, _<_, _≤_}
 use native.Mathlib.Omega.{arith}
 use lib.Dec.{ltb, eqb}
 use lib.ListN.{length}
-use borrow.Author.Tests.{ltb-true, eqb-true, eqb-false}
+use borrow.Author.Tests.{ltb-true}
 use Rattle.base.specs.Refusal.{Causes, verdict, answer}
-use Rattle.base.proofs.Booleans.{and-left, and-right, by-test}
-use Rattle.base.proofs.Refused.{answer-no, answer-yes, spared}
+use Rattle.base.proofs.Booleans.{and-left, and-right}
+use Rattle.base.proofs.Refused.{answer-either, spared}
 use Rattle.parity.specs.declared.Judged.{Judged}
 use Rattle.parity.specs.Unit.{Finding, sound, parityBit, dataBit, neither, rowDiffers, columnDiffers, sumAll, firstOf, fiveCases, finding, named, refused, judgeCauses, judgeVerdict, judgeReply, checkCauses, checkVerdict, checkReply}
 use Rattle.parity.proofs.Judging.{between}
@@ -76,11 +76,7 @@ small-verdict ((n, true) ∷ cs) e = ltb-true n 256 (and-left (ltb n 256) (bytes
 small-verdict ((n, false) ∷ cs) e = small-verdict cs (and-right (ltb n 256) (bytes cs) e)
 
 small-answer : (v : ℕ) (j : Judged) → v < 256 → (v ≡ 0 → Small j) → Small (answer v refused j)
-small-answer v j h p =
-    by-test (eqb v 0) (λ t. let z = eqb-true v 0 t in subst Small (sym (answer-yes v refused j z)) (p z))
-    (λ t.
-    subst Small (sym (answer-no v refused j (eqb-false v 0 t)))
-    (record { refusal = h; case = omega arith; bit = omega arith; word = omega arith }))
+small-answer v j h = answer-either Small v refused j (record { refusal = h; case = omega arith; bit = omega arith; word = omega arith })
 
 pub small-judged : (u : List ℕ) → Small (judgeReply u)
 unfolding judgeReply judgeVerdict

@@ -4,14 +4,11 @@ use mathlib.Core.Path.{_≡_, refl, sym, ap, ap₂, subst, _∙_}
 use mathlib.Core.List.{List, [], _∷_, _++_}
 use Prim.Native.Nat.{ℕ, zero, suc, _+_, _-_, _*_, _^_, _<_}
 use native.Mathlib.Omega.{arith}
-use lib.Dec.{eqb}
 use lib.ListN.{length, getD, set, take, drop, replicate, length-append, length-replicate, length-drop, length-set, List·getD-append}
 use lib.Seq.{take-append-seam, set-append-left}
-use borrow.Author.Tests.{eqb-true, eqb-false}
 use Rattle.base.specs.Xor.{_xor_}
 use Rattle.base.specs.Refusal.{answer}
-use Rattle.base.proofs.Booleans.{by-test}
-use Rattle.base.proofs.Refused.{answer-yes, answer-no}
+use Rattle.base.proofs.Refused.{answer-either}
 use Rattle.parity_rows.specs.Parity.{bitFrom, rowParity, columnParity, rowWord, columnWord, parityWords}
 use Rattle.parity_rows.proofs.Folds.{xor-cong, number-cong}
 use Rattle.parity.specs.declared.Judged.{Judged}
@@ -134,9 +131,7 @@ named-in-data k neither i e = absurd (omega (arith, e))
 answered-in-data : (v : ℕ) (u : List ℕ) → InData (length u - 8) (answer v refused (named (finding u) (length u - 8)))
 answered-in-data v u =
     let k = length u - 8 in
-    by-test (eqb v 0)
-    (λ t. subst (InData k) (sym (answer-yes v refused _ (eqb-true v 0 t))) (named-in-data k (finding u) (data-within u)))
-    (λ t. subst (InData k) (sym (answer-no v refused _ (eqb-false v 0 t))) (λ e. absurd (omega (arith, e))))
+    answer-either (InData k) v refused (named (finding u) k) (λ e. absurd (omega (arith, e))) (λ z. named-in-data k (finding u) (data-within u))
 
 judged-in-data : (u : List ℕ) → InData (length u - 8) (judgeReply u)
 unfolding judgeReply
