@@ -12,7 +12,7 @@ use Rattle.base.specs.Refusal.{Causes, verdict, answer}
 use Rattle.base.proofs.Booleans.{and-left, and-right}
 use Rattle.base.proofs.Refused.{answer-either, spared}
 use Rattle.parity.specs.declared.Judged.{Judged}
-use Rattle.parity.specs.Unit.{Finding, sound, parityBit, dataBit, neither, rowDiffers, columnDiffers, sumAll, firstOf, fiveCases, finding, named, refused, judgeCauses, judgeVerdict, judgeReply, checkCauses, checkVerdict, checkReply}
+use Rattle.parity.specs.Unit.{Finding, sound, parityBit, dataBit, neither, rowDiffers, columnDiffers, sumAll, firstOf, fiveCases, finding, reply, named, refused, judgeCauses, judgeVerdict, judgeReply, checkCauses, checkVerdict, checkReply}
 use Rattle.parity.proofs.Judging.{between}
 use Rattle.exports.specs.Reply.{inBytes, Says, BytesSayTheReply}
 
@@ -22,6 +22,9 @@ pub record Small (j : Judged) : Type 0 where
   pub case : j .case < 256
   pub bit : j .bit < 256
   pub word : j .word .0 < 256
+
+small-reply : {v s w b n : ℕ} → v < 256 → s < 256 → w < 256 → b < 256 → Small (reply v s w b n)
+small-reply p q r t = record { refusal = p; case = q; bit = t; word = r }
 
 -- ---- what is found
 
@@ -46,16 +49,16 @@ module _ (k : ℕ) (most : k ≤ 256) where
     small-cases : Small (named (fiveCases R C row column k) k)
     unfolding fiveCases
     small-cases =
-        either (eqb R 0 && eqb C 0) sound _ (λ _. record { refusal = omega arith; case = omega arith; bit = omega arith; word = omega arith })
+        either (eqb R 0 && eqb C 0) sound _ (λ _. small-reply (omega arith) (omega arith) (omega arith) (omega arith))
         (either (eqb R 1 && eqb C 0) (parityBit (row / 16) (15 - row % 16)) _
-        (λ _. record { refusal = omega arith; case = omega arith; bit = omega arith; word = omega (arith, h) })
+        (λ _. small-reply (omega arith) (omega arith) (omega (arith, h)) (omega arith))
         (either (eqb R 0 && eqb C 1) (parityBit (4 + column / 16) (15 - column % 16)) _
-        (λ _. record { refusal = omega arith; case = omega arith; bit = omega arith; word = omega (arith, i) })
+        (λ _. small-reply (omega arith) (omega arith) (omega (arith, i)) (omega arith))
         (either (eqb R 1 && eqb C 1 && ltb word k) (dataBit word (15 - column % 16)) neither
         (λ e.
         let below = ltb-true word k (and-right (eqb R 1 && eqb C 1) (ltb word k) e) in
-        record { refusal = omega arith; case = omega arith; bit = omega arith; word = omega (arith, below, most) })
-        (record { refusal = omega arith; case = omega arith; bit = omega arith; word = omega arith }))))
+        small-reply (omega arith) (omega arith) (omega (arith, below, most)) (omega arith))
+        (small-reply (omega arith) (omega arith) (omega arith) (omega arith)))))
 
 small-finding : (u : List ℕ) → length u - 8 ≤ 256 → Small (named (finding u) (length u - 8))
 unfolding finding
@@ -76,7 +79,7 @@ small-verdict ((n, true) ∷ cs) e = ltb-true n 256 (and-left (ltb n 256) (bytes
 small-verdict ((n, false) ∷ cs) e = small-verdict cs (and-right (ltb n 256) (bytes cs) e)
 
 small-answer : (v : ℕ) (j : Judged) → v < 256 → (v ≡ 0 → Small j) → Small (answer v refused j)
-small-answer v j h = answer-either Small v refused j (record { refusal = h; case = omega arith; bit = omega arith; word = omega arith })
+small-answer v j h = answer-either Small v refused j (small-reply h (omega arith) (omega arith) (omega arith))
 
 pub small-judged : (u : List ℕ) → Small (judgeReply u)
 unfolding judgeReply judgeVerdict
