@@ -22,6 +22,7 @@ enum { SOUND, PARITY_BIT, DATA_BIT, REFUSED_1, REFUSED_6, REFUSED_3, OUTCOMES };
 
 extern const char *const outcome_names[OUTCOMES];
 
+/* which of these a reply is */
 unsigned outcome(struct padded_reply reply);
 
 /* whether each outcome came at least once; says which did not */

@@ -21,6 +21,7 @@ enum {
     /* so many bytes below the stack pointer are looked at after each call, and so many below those at the end */
     AREA = 4096,
     BELOW = 65536,
+    /* so many parity bits and data bits are tried in each length */
     TRIES = 8
 };
 

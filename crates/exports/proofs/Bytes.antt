@@ -12,7 +12,7 @@ use Rattle.base.specs.Refusal.{Causes, verdict, answer}
 use Rattle.base.proofs.Booleans.{and-left, and-right}
 use Rattle.base.proofs.Refused.{answer-either, spared}
 use Rattle.parity.specs.declared.Judged.{Judged}
-use Rattle.parity.specs.Unit.{Finding, sound, parityBit, dataBit, neither, rowDiffers, columnDiffers, sumAll, firstOf, fiveCases, finding, reply, named, refused, judgeCauses, judgeVerdict, judgeReply, checkCauses, checkVerdict, checkReply}
+use Rattle.parity.specs.Unit.{Finding, sound, parityBit, dataBit, neither, rowDiffers, columnDiffers, sumAll, firstOf, fiveCases, finding, notUnit, reply, named, refused, judgeCauses, judgeVerdict, judgeReply, checkCauses, checkVerdict, checkReply}
 use Rattle.parity.proofs.Judging.{between}
 use Rattle.exports.specs.Reply.{inBytes, Says, BytesSayTheReply}
 
@@ -51,13 +51,13 @@ module _ (k : ℕ) (most : k ≤ 256) where
     small-cases =
         either (eqb R 0 && eqb C 0) sound _ (λ _. small-reply (omega arith) (omega arith) (omega arith) (omega arith))
         (either (eqb R 1 && eqb C 0) (parityBit (row / 16) (15 - row % 16)) _
-        (λ _. small-reply (omega arith) (omega arith) (omega (arith, h)) (omega arith))
+        (λ _. small-reply (omega arith) (omega arith) (omega arith) (omega arith))
         (either (eqb R 0 && eqb C 1) (parityBit (4 + column / 16) (15 - column % 16)) _
-        (λ _. small-reply (omega arith) (omega arith) (omega (arith, i)) (omega arith))
+        (λ _. small-reply (omega arith) (omega arith) (omega arith) (omega arith))
         (either (eqb R 1 && eqb C 1 && ltb word k) (dataBit word (15 - column % 16)) neither
         (λ e.
         let below = ltb-true word k (and-right (eqb R 1 && eqb C 1) (ltb word k) e) in
-        small-reply (omega arith) (omega arith) (omega (arith, below, most)) (omega arith))
+        small-reply (omega arith) (omega arith) (omega (arith, below)) (omega arith))
         (small-reply (omega arith) (omega arith) (omega arith) (omega arith)))))
 
 small-finding : (u : List ℕ) → length u - 8 ≤ 256 → Small (named (finding u) (length u - 8))
@@ -78,32 +78,26 @@ small-verdict [] e = omega arith
 small-verdict ((n, true) ∷ cs) e = ltb-true n 256 (and-left (ltb n 256) (bytes cs) e)
 small-verdict ((n, false) ∷ cs) e = small-verdict cs (and-right (ltb n 256) (bytes cs) e)
 
-small-answer : (v : ℕ) (j : Judged) → v < 256 → (v ≡ 0 → Small j) → Small (answer v refused j)
-small-answer v j h = answer-either Small v refused j (small-reply h (omega arith) (omega arith) (omega arith))
+-- by causes of which one is that the length is no unit's
+small-answer : (u : List ℕ) (cs : Causes) → bytes cs ≡ true → (verdict cs ≡ 0 → notUnit (length u) ≡ false)
+    → Small (answer (verdict cs) refused (named (finding u) (length u - 8)))
+small-answer u cs e h =
+    answer-either Small (verdict cs) refused _ (small-reply (small-verdict cs e) (omega arith) (omega arith) (omega arith))
+    (λ z. small-finding u (omega (arith, between 9 264 (length u) (h z) .1)))
 
 pub small-judged : (u : List ℕ) → Small (judgeReply u)
 unfolding judgeReply judgeVerdict
-small-judged u =
-    small-answer (judgeVerdict u) (named (finding u) (length u - 8)) (small-verdict (judgeCauses u) refl)
-    (λ z. small-finding u (omega (arith, between 9 264 (length u) (spared (judgeCauses u) refl z .0) .1)))
+small-judged u = small-answer u (judgeCauses u) refl (λ z. spared (judgeCauses u) refl z .0)
 
 pub small-checked : (u : List ℕ) (m : ℕ) → Small (checkReply u m)
 unfolding checkReply checkVerdict
-small-checked u m =
-    small-answer (checkVerdict u m) (named (finding u) (length u - 8)) (small-verdict (checkCauses u m) refl)
-    (λ z. small-finding u (omega (arith, between 9 264 (length u) (spared (checkCauses u m) refl z .0) .1)))
+small-checked u m = small-answer u (checkCauses u m) refl (λ z. spared (checkCauses u m) refl z .0)
 
 -- ---- the number
 
 says : (j : Judged) → Small j → Says j
 unfolding inBytes
-says j s =
-    record {
-      refusal = omega (arith, s .refusal, s .case, s .bit, s .word);
-      case = omega (arith, s .refusal, s .case, s .bit, s .word);
-      bit = omega (arith, s .refusal, s .case, s .bit, s .word);
-      word = omega (arith, s .refusal, s .case, s .bit, s .word);
-    }
+says j s = record { refusal = omega arith; case = omega arith; bit = omega arith; word = omega arith }
 
 pub bytes-say-the-reply : BytesSayTheReply
 unfolding inBytes
