@@ -89,7 +89,8 @@ class Recording:
         lines = ['recording %d skipped %d' % (len(self.words), self.skipped)]
         for c in self.chunks:
             name = 'health' if c.kind == 1 else 'more' if c.camera == 0 else 'image'
-            lines.append('%d %s %d %d' % (c.at, name, c.camera, c.size))
+            mark = ' end' if c.end == len(self.words) else ''
+            lines.append('%d %s %d %d%s' % (c.at, name, c.camera, c.size, mark))
         return lines + self.pieces() + ['runs %d %d' % (self.runs(0), self.runs(1))]
 
 

@@ -12,16 +12,29 @@ use lib.Dec.{leb, eqb}
 use borrow.Author.Tests.{eqb-true, eqb-false, eq-eqb, ne-eqb, leb-true}
 use Rattle.base.proofs.Booleans.{and-left, and-right, or-cases}
 use Rattle.chunk.specs.declared.Check.{Check}
-use Rattle.chunk.specs.Header.{size, kind, imageSize, healthSize, legalSize, legal, headed, span, ends, confirmed, checkOf}
+use Rattle.chunk.specs.Header.{size, kind, imageSize, healthSize, legalSize, legal, headed, span, ends, confirmed, atEnd, chunkCheck, checkAt, isChunk, isAtEnd}
 
--- the header check's two answers
-pub check-yes : (b : Bool) → checkOf b ≡ Check.Confirmed → b ≡ true
-check-yes true e = refl
-check-yes false e = let z : _≡_ {A = ℕ} 0 1 = cc in absurd (omega arith)
+-- of a chunk the header check tells the mark
+pub chunk-told : (m : Bool) → isChunk (chunkCheck m) ≡ true
+chunk-told true = refl
+chunk-told false = refl
 
-pub check-no : (b : Bool) → checkOf b ≡ Check.NotAChunk → b ≡ false
-check-no true e = let z : _≡_ {A = ℕ} 0 1 = cc in absurd (omega arith)
-check-no false e = refl
+pub at-end-told : (m : Bool) → isAtEnd (chunkCheck m) ≡ m
+at-end-told true = refl
+at-end-told false = refl
+
+-- it finds a chunk exactly where one is confirmed
+pub check-chunk : (sync : ℕ) (ws : List ℕ) → isChunk (checkAt sync ws) ≡ confirmed sync ws
+unfolding checkAt
+check-chunk sync ws = by-test (confirmed sync ws)
+  where
+    by-test : (b : Bool) → isChunk (cond b (chunkCheck (atEnd ws)) Check.NotAChunk) ≡ b
+    by-test true = chunk-told (atEnd ws)
+    by-test false = refl
+
+pub check-end : (sync : ℕ) (ws : List ℕ) → confirmed sync ws ≡ true → isAtEnd (checkAt sync ws) ≡ atEnd ws
+unfolding checkAt
+check-end sync ws e = rw e (at-end-told (atEnd ws))
 
 -- a legal payload has 9 words at the least, and the longest chunk has 8,186
 pub legal-size : (k n : ℕ) → legalSize k n ≡ true → (9 ≤ n) × (n ≤ 8184)
@@ -76,7 +89,7 @@ no-header sync [] h = refl
 no-header sync (w ∷ []) h = refl
 no-header sync (w ∷ v ∷ l) h = absurd (omega arith)
 
-end-shifted : (n at l end : ℕ) → at + n ≡ end → at ≤ l → eqb n (l - at) ≡ eqb end l
+pub end-shifted : (n at l end : ℕ) → at + n ≡ end → at ≤ l → eqb n (l - at) ≡ eqb end l
 end-shifted n at l end e h = by-end (eqb end l) refl
   where
     by-end : (b : Bool) → eqb end l ≡ b → eqb n (l - at) ≡ b
@@ -101,13 +114,19 @@ module _ (sync : ℕ) (ws : List ℕ) (at : ℕ) where
   unfolding confirmed
   confirmed-none e = ap (λ (b : Bool). b && ends sync (span (getD (drop at ws) 1 0)) (drop at ws)) e
 
+  -- the chunk there ends with the recording
+  pub at-end : (end : ℕ) → at ≤ length ws → end ≡ at + 2 + size (getD ws (at + 1) 0) → atEnd (drop at ws) ≡ eqb end (length ws)
+  unfolding atEnd
+  at-end end h n =
+      let s : at + span (getD (drop at ws) 1 0) ≡ end = omega (arith, ap size (getD-drop at ws 1 0)) in
+      ap (eqb (span (getD (drop at ws) 1 0))) (length-drop at ws) ∙ end-shifted (span (getD (drop at ws) 1 0)) at (length ws) end s h
+
   -- where a header stands, the chunk is confirmed by what stands at its end
   pub confirmed-by-end : (end : ℕ) → headed sync (drop at ws) ≡ true → end ≡ at + 2 + size (getD ws (at + 1) 0)
       → confirmed sync (drop at ws) ≡ eqb end (length ws) || headed sync (drop end ws)
-  unfolding confirmed ends
+  unfolding confirmed ends atEnd
   confirmed-by-end end e n =
       let s : at + span (getD (drop at ws) 1 0) ≡ end = omega (arith, ap size (getD-drop at ws 1 0)) in
-      let l : eqb (span (getD (drop at ws) 1 0)) (length (drop at ws)) ≡ eqb end (length ws) =
-      ap (eqb (span (getD (drop at ws) 1 0))) (length-drop at ws) ∙ end-shifted (span (getD (drop at ws) 1 0)) at (length ws) end s (omega (arith, headed-inside e)) in
+      let l : eqb (span (getD (drop at ws) 1 0)) (length (drop at ws)) ≡ eqb end (length ws) = at-end end (omega (arith, headed-inside e)) n in
       let d : drop (span (getD (drop at ws) 1 0)) (drop at ws) ≡ drop end ws = drop-drop (span (getD (drop at ws) 1 0)) at ws ∙ ap (λ (m : ℕ). drop m ws) s in
       rw (e, l, d)

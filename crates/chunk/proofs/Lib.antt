@@ -1,2 +1,3 @@
 pub mod Headers
 pub mod Steps
+pub mod Marks

@@ -9,14 +9,14 @@ use native.Mathlib.Nat.{add-zero, zero-add, suc-add}
 use native.Mathlib.Numerals.{add-one}
 use lib.ListN.{length, getD, drop, length-drop, drop-of-length-le}
 use lib.Seq.{drop-cons, drop-drop, getD-drop}
-use lib.Dec.{ltb}
+use lib.Dec.{eqb, ltb}
 use borrow.Author.Tests.{eq-eqb, ne-eqb, ltb-true, ltb-false}
 use Rattle.base.specs.declared.Words.{Words}
 use Rattle.chunk.specs.declared.Entry.{Entry}
 use Rattle.chunk.specs.declared.Found.{Found}
-use Rattle.chunk.specs.Header.{size, span, headed, ends, confirmed}
+use Rattle.chunk.specs.Header.{size, span, headed, ends, confirmed, atEnd}
 use Rattle.chunk.specs.Reading.{entry, listed, skippedFrom, leftAt, listedAt, chunkAt, found, nextFrom}
-use Rattle.chunk.proofs.Headers.{confirmed-within}
+use Rattle.chunk.proofs.Headers.{confirmed-within, at-end}
 
 -- ---- a chunk in hand is passed
 
@@ -56,13 +56,13 @@ left-split sync zero (suc p) n (w ∷ ws) =
 
 -- ---- one word, where no chunk is in hand
 
-listed-one : (sync at : ℕ) (w : ℕ) (ws : List ℕ) (b : Bool) → confirmed sync (w ∷ ws) ≡ b
-    → listed sync at 0 (w ∷ ws) ≡ cond b (entry at (getD ws 0 0) ∷ listed sync (suc at) (suc (size (getD ws 0 0))) ws) (listed sync (suc at) 0 ws)
+pub listed-one : (sync at : ℕ) (w : ℕ) (ws : List ℕ) (b : Bool) → confirmed sync (w ∷ ws) ≡ b
+    → listed sync at 0 (w ∷ ws) ≡ cond b (entry at (getD ws 0 0) (atEnd (w ∷ ws)) ∷ listed sync (suc at) (suc (size (getD ws 0 0))) ws) (listed sync (suc at) 0 ws)
 unfolding listed
 listed-one sync at w ws true e =
-    ap (λ (b : Bool). elim b as (λ x. List Entry) [ true ↦ entry at (getD ws 0 0) ∷ listed sync (suc at) (suc (size (getD ws 0 0))) ws | false ↦ listed sync (suc at) 0 ws ]) e
+    ap (λ (b : Bool). elim b as (λ x. List Entry) [ true ↦ entry at (getD ws 0 0) (atEnd (w ∷ ws)) ∷ listed sync (suc at) (suc (size (getD ws 0 0))) ws | false ↦ listed sync (suc at) 0 ws ]) e
 listed-one sync at w ws false e =
-    ap (λ (b : Bool). elim b as (λ x. List Entry) [ true ↦ entry at (getD ws 0 0) ∷ listed sync (suc at) (suc (size (getD ws 0 0))) ws | false ↦ listed sync (suc at) 0 ws ]) e
+    ap (λ (b : Bool). elim b as (λ x. List Entry) [ true ↦ entry at (getD ws 0 0) (atEnd (w ∷ ws)) ∷ listed sync (suc at) (suc (size (getD ws 0 0))) ws | false ↦ listed sync (suc at) 0 ws ]) e
 
 skipped-one : (sync : ℕ) (w : ℕ) (ws : List ℕ) (b : Bool) → confirmed sync (w ∷ ws) ≡ b
     → skippedFrom sync 0 (w ∷ ws) ≡ cond b (skippedFrom sync (suc (size (getD ws 0 0))) ws) (suc (skippedFrom sync 0 ws))
@@ -73,10 +73,10 @@ skipped-one sync w ws false e =
     ap (λ (b : Bool). elim b as (λ x. ℕ) [ true ↦ skippedFrom sync (suc (size (getD ws 0 0))) ws | false ↦ suc (skippedFrom sync 0 ws) ]) e
 
 found-one : (sync at : ℕ) (w : ℕ) (ws : List ℕ) (b : Bool) → confirmed sync (w ∷ ws) ≡ b
-    → found sync at (w ∷ ws) ≡ cond b (chunkAt at (getD ws 0 0)) (found sync (suc at) ws)
+    → found sync at (w ∷ ws) ≡ cond b (chunkAt at (getD ws 0 0) (atEnd (w ∷ ws))) (found sync (suc at) ws)
 unfolding found
-found-one sync at w ws true e = ap (λ (b : Bool). elim b as (λ x. Found) [ true ↦ chunkAt at (getD ws 0 0) | false ↦ found sync (suc at) ws ]) e
-found-one sync at w ws false e = ap (λ (b : Bool). elim b as (λ x. Found) [ true ↦ chunkAt at (getD ws 0 0) | false ↦ found sync (suc at) ws ]) e
+found-one sync at w ws true e = ap (λ (b : Bool). elim b as (λ x. Found) [ true ↦ chunkAt at (getD ws 0 0) (atEnd (w ∷ ws)) | false ↦ found sync (suc at) ws ]) e
+found-one sync at w ws false e = ap (λ (b : Bool). elim b as (λ x. Found) [ true ↦ chunkAt at (getD ws 0 0) (atEnd (w ∷ ws)) | false ↦ found sync (suc at) ws ]) e
 
 left-one : (sync n : ℕ) (w : ℕ) (ws : List ℕ) (b : Bool) → confirmed sync (w ∷ ws) ≡ b
     → leftAt sync 0 (w ∷ ws) (suc n) ≡ leftAt sync (cond b (suc (size (getD ws 0 0))) 0) ws n
@@ -103,10 +103,10 @@ module _ (sync : ℕ) (ws : List ℕ) (p : ℕ) (h : p < length ws) where
   pub found-later : confirmed sync (drop p ws) ≡ false → nextFrom sync ws p ≡ nextFrom sync ws (suc p)
   found-later e = ap (found sync p) words-here ∙ found-one sync p (getD ws p 0) (drop (suc p) ws) false (confirmed-front false e)
 
-  pub found-here : confirmed sync (drop p ws) ≡ true → nextFrom sync ws p ≡ chunkAt p (getD ws (suc p) 0)
+  pub found-here : confirmed sync (drop p ws) ≡ true → nextFrom sync ws p ≡ chunkAt p (getD ws (suc p) 0) (atEnd (drop p ws))
   found-here e =
       ap (found sync p) words-here ∙ found-one sync p (getD ws p 0) (drop (suc p) ws) true (confirmed-front true e)
-      ∙ ap (chunkAt p) header-next
+      ∙ ap₂ (chunkAt p) header-next (sym (ap atEnd words-here))
 
   listed-later : confirmed sync (drop p ws) ≡ false → listed sync p 0 (drop p ws) ≡ listed sync (suc p) 0 (drop (suc p) ws)
   listed-later e = ap (listed sync p 0) words-here ∙ listed-one sync p (getD ws p 0) (drop (suc p) ws) false (confirmed-front false e)
@@ -138,11 +138,11 @@ module _ (sync : ℕ) (ws : List ℕ) (p : ℕ) (h : p < length ws) where
         let n : suc p + suc (size word) ≡ p + span word = omega arith in
         drop-drop (suc (size word)) (suc p) ws ∙ ap (λ (m : ℕ). drop m ws) n
 
-    listed-here : listed sync p 0 (drop p ws) ≡ entry p word ∷ listed sync (p + span word) 0 (drop (p + span word) ws)
+    listed-here : listed sync p 0 (drop p ws) ≡ entry p word (atEnd (drop p ws)) ∷ listed sync (p + span word) 0 (drop (p + span word) ws)
     listed-here =
         ap (listed sync p 0) words-here ∙ listed-one sync p (getD ws p 0) (drop (suc p) ws) true (confirmed-front true e)
-        ∙ ap (λ (x : ℕ). entry p x ∷ listed sync (suc p) (suc (size x)) (drop (suc p) ws)) header-next
-        ∙ ap (λ (l : List Entry). entry p word ∷ l)
+        ∙ ap₂ (λ (x : ℕ) (m : Bool). entry p x m ∷ listed sync (suc p) (suc (size x)) (drop (suc p) ws)) header-next (sym (ap atEnd words-here))
+        ∙ ap (λ (l : List Entry). entry p word (atEnd (drop p ws)) ∷ l)
         (listed-on sync (suc p) (suc (size word)) (drop (suc p) ws) rest-long
         ∙ ap (λ (n : ℕ). listed sync n 0 (drop (suc (size word)) (drop (suc p) ws))) (omega arith)
         ∙ ap (listed sync (p + span word) 0) rest-at)
@@ -207,7 +207,7 @@ module _ (sync : ℕ) (ws : List ℕ) where
     ahead : p ≤ e .position .0
     there : e .position .0 < length ws
     confirms : confirmed sync (drop (e .position .0) ws) ≡ true
-    word : e ≡ entry (e .position .0) (getD ws (suc (e .position .0)) 0)
+    word : e ≡ entry (e .position .0) (getD ws (suc (e .position .0)) 0) (atEnd (drop (e .position .0) ws))
     end : next .0 ≡ past e
     noise : Noise sync ws p (e .position .0)
 
@@ -221,7 +221,7 @@ module _ (sync : ℕ) (ws : List ℕ) where
     where
       by-check : (nextFrom sync ws (suc p) ≡ Found.Chunk e next → First (suc p) e next) → p < length ws → (b : Bool) → confirmed sync (drop p ws) ≡ b → First p e next
       by-check more l true z =
-          let s : e ≡ entry p (getD ws (suc p) 0) = cc (found-here sync ws p l z) in
+          let s : e ≡ entry p (getD ws (suc p) 0) (atEnd (drop p ws)) = cc (found-here sync ws p l z) in
           let n : next ≡ record { 0 = p + span (getD ws (suc p) 0) } = cc (found-here sync ws p l z) in
           subst (λ (x : Entry). First p x next) (sym s)
           (record { ahead = omega arith; there = l; confirms = z; word = refl; end = ap (λ (x : Words). x .0) n; noise = λ i a b. absurd (omega arith) })
@@ -274,6 +274,8 @@ pub record Next (sync : ℕ) (ws : List ℕ) (p : ℕ) (e : Entry) (n : ℕ) : T
   -- it begins at p or later, and ends within the recording
   pub ahead : p ≤ e .position .0
   pub within : n ≤ length ws
+  -- it has the mark exactly where it ends with the recording
+  pub mark : e .end ≡ eqb n (length ws)
   -- its header word stands after its first word, with a legal size
   pub word : e .header ≡ getD ws (suc (e .position .0)) 0
   pub least : 9 ≤ size (e .header)
@@ -311,6 +313,9 @@ module _ (sync : ℕ) (ws : List ℕ) (p : ℕ) where
         end = r .end;
         ahead = r .ahead;
         within = omega (arith, b .0);
+        mark =
+            ap (λ (x : Entry). x .end) (r .word)
+            ∙ at-end sync ws q (next .0) (omega (arith, r .there)) (omega (arith, to, ap (λ (n : ℕ). size (getD ws n 0)) (add-one q)));
         word = sym h;
         least = omega (arith, b .1, ap size h);
         most = omega (arith, b .2, ap size h);

@@ -3,7 +3,7 @@ use Prim.Native.Nat.{ℕ, suc, _+_, _/_, _%_}
 use mathlib.Core.Bool.{Bool, true, false, cond, _&&_, _||_}
 use mathlib.Core.List.{List, [], _∷_}
 use lib.ListN.{length, getD, drop}
-use lib.Dec.{leb, eqb}
+use lib.Dec.{leb, ltb, eqb}
 use Rattle.base.specs.Size.{parityWidth, unitWidth, packetWidth}
 use Rattle.chunk.specs.declared.Check.{Check}
 
@@ -57,12 +57,27 @@ ends sync n ws = eqb n (length ws) || headed sync (drop n ws)
 unfoldable pub confirmed : ℕ → List ℕ → Bool
 confirmed sync ws = headed sync ws && ends sync (span (getD ws 1 0)) ws
 
--- the header check's answer for each of the two
-abbrev pub checkOf : Bool → Check
-checkOf true = Check.Confirmed
-checkOf false = Check.NotAChunk
+-- the chunk at the front of these words ends with them
+unfoldable pub atEnd : List ℕ → Bool
+atEnd ws = eqb (span (getD ws 1 0)) (length ws)
+
+-- what the header check answers of a chunk: it ends with the recording, or a legal header follows it
+abbrev pub chunkCheck : Bool → Check
+chunkCheck end = cond end Check.AtEnd Check.Followed
+
+-- the header check
+unfoldable pub checkAt : ℕ → List ℕ → Check
+checkAt sync ws = cond (confirmed sync ws) (chunkCheck (atEnd ws)) Check.NotAChunk
 
 -- the number of each of its answers
 abbrev pub checkNumber : Check → ℕ
 checkNumber Check.NotAChunk = 0
-checkNumber Check.Confirmed = 1
+checkNumber Check.Followed = 1
+checkNumber Check.AtEnd = 2
+
+-- a chunk was found, of either sort; and one that ends with the recording
+abbrev pub isChunk : Check → Bool
+isChunk c = ltb 0 (checkNumber c)
+
+abbrev pub isAtEnd : Check → Bool
+isAtEnd c = eqb (checkNumber c) 2

@@ -7,7 +7,7 @@ use base::size::PARITY;
 use base::size::UNIT;
 ghost use mathlib.Core.Path.{_≡_};
 ghost use lib.ListN.{drop};
-ghost use Rattle.chunk.specs.Header.{size, camera, kind, legalSize, legal, headed, confirmed, checkOf};
+ghost use Rattle.chunk.specs.Header.{size, camera, kind, legalSize, legal, headed, checkAt, isChunk, isAtEnd};
 
 // the words of the header
 pub const HEADER: Words = Words(2);
@@ -72,9 +72,9 @@ fn headed_at(words: &[u16], sync: u16, at: Words) -> bool
     legal_word(words[place + 1])
 }
 
-// What stands at a place: a chunk is confirmed by a legal header whose end is the recording's or has a legal header itself.
+// What stands at a place: a chunk has a legal header, and its end has one too or is the recording's.
 pub fn check(words: &[u16], sync: u16, at: Words) -> Check
-    ensures { λ r. ⌜ r ≡ checkOf (confirmed sync (drop (at .0) (now (words .entry)))) ⌝ }
+    ensures { λ r. ⌜ r ≡ checkAt sync (drop (at .0) (now (words .entry))) ⌝ }
 {
     let place = at.0;
     if !headed_at(words, sync, at) {
@@ -83,10 +83,32 @@ pub fn check(words: &[u16], sync: u16, at: Words) -> Check
     let size = size_of(words[place + 1]);
     let end = place + HEADER.0 + size.0;
     if end == words.len() {
-        return Check::Confirmed;
+        return Check::AtEnd;
     }
     if headed_at(words, sync, Words(end)) {
-        return Check::Confirmed;
+        return Check::Followed;
     }
     Check::NotAChunk
+}
+
+// Whether the check found a chunk, of either sort.
+pub fn is_chunk(check: Check) -> bool
+    ensures { λ r. ⌜ r ≡ isChunk check ⌝ }
+{
+    match check {
+        Check::NotAChunk => false,
+        Check::Followed => true,
+        Check::AtEnd => true,
+    }
+}
+
+// Whether it found one that ends with the recording.
+pub fn is_at_end(check: Check) -> bool
+    ensures { λ r. ⌜ r ≡ isAtEnd check ⌝ }
+{
+    match check {
+        Check::NotAChunk => false,
+        Check::Followed => false,
+        Check::AtEnd => true,
+    }
 }

@@ -1,5 +1,4 @@
 // The search for the next chunk.
-use crate::Check;
 use crate::Entry;
 use crate::Found;
 use crate::header;
@@ -17,7 +16,7 @@ pub fn next(words: &[u16], sync: u16, from: Words) -> Found
             break Found::End;
         }
         let here = header::check(words, sync, Words(at));
-        if let Check::Confirmed = here {
+        if header::is_chunk(here) {
             let second = at + 1;
             let word = base_room::word_at(words, Words(second));
             let end = at + header::HEADER.0 + header::size_of(word).0;
@@ -25,6 +24,7 @@ pub fn next(words: &[u16], sync: u16, from: Words) -> Found
                 Entry {
                     position: Words(at),
                     header: word,
+                    end: header::is_at_end(here),
                 },
                 Words(end),
             );

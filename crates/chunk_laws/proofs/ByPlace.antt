@@ -12,7 +12,7 @@ use lib.Dec.{leb, eqb}
 use borrow.Author.Tests.{eqb-true, le-leb, lt-leb}
 use Rattle.base.proofs.Booleans.{and-left, and-right, by-test}
 use Rattle.chunk.specs.declared.Entry.{Entry}
-use Rattle.chunk.specs.Header.{size, headed, confirmed}
+use Rattle.chunk.specs.Header.{size, headed, confirmed, atEnd}
 use Rattle.chunk.specs.Reading.{entry, listed, reading, skippedFrom, leftAt, listedAt}
 use Rattle.chunk.proofs.Steps.{listed-at-yes}
 use Rattle.chunk_laws.specs.Listed.{Among}
@@ -21,7 +21,7 @@ use Rattle.chunk_laws.specs.Resync.{from, moved}
 -- ---- one word read where no chunk is in hand, by whether one is confirmed there
 
 pub list-step : (sync at w : ℕ) (ws : List ℕ) (b : Bool) → confirmed sync (w ∷ ws) ≡ b → listed sync at 0 (w ∷ ws)
-    ≡ cond b (entry at (getD ws 0 0) ∷ listed sync (suc at) (suc (size (getD ws 0 0))) ws) (listed sync (suc at) 0 ws)
+    ≡ cond b (entry at (getD ws 0 0) (atEnd (w ∷ ws)) ∷ listed sync (suc at) (suc (size (getD ws 0 0))) ws) (listed sync (suc at) 0 ws)
 unfolding listed
 list-step sync at w ws true e = rw (e, listed)
 list-step sync at w ws false e = rw (e, listed)
@@ -62,7 +62,7 @@ from-start sync p at left [] h = refl
 from-start sync p at (suc left) (w ∷ ws) h = from-start sync p (suc at) left ws (omega arith)
 from-start sync p at zero (w ∷ ws) h =
     by-test (confirmed sync (w ∷ ws))
-    (λ e. rw (list-step sync at w ws true e) (from-past p (entry at (getD ws 0 0)) (listed sync (suc at) (suc (size (getD ws 0 0))) ws) h))
+    (λ e. rw (list-step sync at w ws true e) (from-past p (entry at (getD ws 0 0) (atEnd (w ∷ ws))) (listed sync (suc at) (suc (size (getD ws 0 0))) ws) h))
     (λ e. rw (list-step sync at w ws false e) (from-start sync p (suc at) 0 ws (omega arith)))
 
 from-at : (sync at left p : ℕ) (ws : List ℕ) → from (at + p) (listed sync at left ws) ≡ listed sync (at + p) (leftAt sync left ws p) (drop p ws)
@@ -73,7 +73,7 @@ from-at sync at (suc left) (suc p) (w ∷ ws) = rw (add-suc at p, ← suc-add at
 from-at sync at zero (suc p) (w ∷ ws) =
     rw (add-suc at p, ← suc-add at p) (by-test (confirmed sync (w ∷ ws))
     (λ e. rw (list-step sync at w ws true e, left-step sync p w ws true e)
-    (from-before (suc at + p) (entry at (getD ws 0 0)) (listed sync (suc at) (suc (size (getD ws 0 0))) ws) (omega arith)
+    (from-before (suc at + p) (entry at (getD ws 0 0) (atEnd (w ∷ ws))) (listed sync (suc at) (suc (size (getD ws 0 0))) ws) (omega arith)
     ∙ from-at sync (suc at) (suc (size (getD ws 0 0))) p ws))
     (λ e. rw (list-step sync at w ws false e, left-step sync p w ws false e) (from-at sync (suc at) 0 p ws)))
 
@@ -89,7 +89,7 @@ listed-moved sync n at (suc left) (w ∷ ws) = rw (← add-suc n at) (listed-mov
 listed-moved sync n at zero (w ∷ ws) =
     by-test (confirmed sync (w ∷ ws))
     (λ e. rw (list-step sync (n + at) w ws true e, list-step sync at w ws true e, ← add-suc n at)
-    (ap (λ (l : List Entry). entry (n + at) (getD ws 0 0) ∷ l) (listed-moved sync n (suc at) _ ws)))
+    (ap (λ (l : List Entry). entry (n + at) (getD ws 0 0) (atEnd (w ∷ ws)) ∷ l) (listed-moved sync n (suc at) _ ws)))
     (λ e. rw (list-step sync (n + at) w ws false e, list-step sync at w ws false e, ← add-suc n at) (listed-moved sync n (suc at) 0 ws))
 
 -- ---- a chunk is listed at a place exactly if its entry is in the list
@@ -104,22 +104,23 @@ not-empty : (sync : ℕ) → confirmed sync [] ≡ true → ⊥
 unfolding confirmed headed
 not-empty sync e = false≢true e
 
-pub place-listed : (sync p : ℕ) (ws : List ℕ) → listedAt sync ws p ≡ true → Among (entry p (getD (drop p ws) 1 0)) (reading sync ws)
+pub place-listed : (sync p : ℕ) (ws : List ℕ) → listedAt sync ws p ≡ true
+    → Among (entry p (getD (drop p ws) 1 0) (atEnd (drop p ws))) (reading sync ws)
 unfolding listedAt
 place-listed sync p ws h =
     let z : leftAt sync 0 ws p ≡ 0 = eqb-true (leftAt sync 0 ws p) 0 (and-left (eqb (leftAt sync 0 ws p) 0) _ h) in
     let c : confirmed sync (drop p ws) ≡ true = and-right (eqb (leftAt sync 0 ws p) 0) _ h in
     let f : from p (reading sync ws) ≡ listed sync p 0 (drop p ws) = rw z at (reading-from sync p ws) in
-    from-part p (entry p (getD (drop p ws) 1 0)) (reading sync ws) (rw f (front p (drop p ws) c))
+    from-part p (entry p (getD (drop p ws) 1 0) (atEnd (drop p ws))) (reading sync ws) (rw f (front p (drop p ws) c))
   where
-    front : (at : ℕ) (vs : List ℕ) → confirmed sync vs ≡ true → Among (entry at (getD vs 1 0)) (listed sync at 0 vs)
+    front : (at : ℕ) (vs : List ℕ) → confirmed sync vs ≡ true → Among (entry at (getD vs 1 0) (atEnd vs)) (listed sync at 0 vs)
     front at [] e = absurd (not-empty sync e)
     front at (v ∷ vs) e = rw (list-step sync at v vs true e) (inl refl)
 
 -- what an entry of the list is: at its place no words of another chunk are left, and a chunk is confirmed
 record Placed (sync at left : ℕ) (ws : List ℕ) (e : Entry) : Type 0 where
   place : ℕ
-  named : e ≡ entry (at + place) (getD (drop place ws) 1 0)
+  named : e ≡ entry (at + place) (getD (drop place ws) 1 0) (atEnd (drop place ws))
   free : leftAt sync left ws place ≡ 0
   there : confirmed sync (drop place ws) ≡ true
 
@@ -130,14 +131,14 @@ placed sync at (suc left) (w ∷ ws) e h =
     let t : Placed sync (suc at) left ws e = placed sync (suc at) left ws e h in
     record {
       place = suc (t .place);
-      named = t .named ∙ ap (λ (n : ℕ). entry n (getD (drop (t .place) ws) 1 0)) (omega arith);
+      named = t .named ∙ ap (λ (n : ℕ). entry n (getD (drop (t .place) ws) 1 0) (atEnd (drop (t .place) ws))) (omega arith);
       free = t .free;
       there = t .there;
     }
 placed sync at zero (w ∷ ws) e h =
     by-test (confirmed sync (w ∷ ws))
     (λ c. elim (rw (list-step sync at w ws true c) at h) as (λ x. Placed sync at 0 (w ∷ ws) e) [
-      | inl z ↦ record { place = 0; named = z ∙ ap (λ (n : ℕ). entry n (getD ws 0 0)) (omega arith); free = refl; there = c }
+      | inl z ↦ record { place = 0; named = z ∙ ap (λ (n : ℕ). entry n (getD ws 0 0) (atEnd (w ∷ ws))) (omega arith); free = refl; there = c }
       | inr z ↦ next true c (placed sync (suc at) _ ws e z)
     ])
     (λ c. next false c (placed sync (suc at) 0 ws e (rw (list-step sync at w ws false c) at h)))
@@ -146,14 +147,18 @@ placed sync at zero (w ∷ ws) e h =
     next b c t =
         record {
           place = suc (t .place);
-          named = t .named ∙ ap (λ (n : ℕ). entry n (getD (drop (t .place) ws) 1 0)) (omega arith);
+          named = t .named ∙ ap (λ (n : ℕ). entry n (getD (drop (t .place) ws) 1 0) (atEnd (drop (t .place) ws))) (omega arith);
           free = left-step sync (t .place) w ws b c ∙ t .free;
           there = t .there;
         }
 
 pub listed-place : (sync : ℕ) (ws : List ℕ) (e : Entry) → Among e (reading sync ws)
-    → (listedAt sync ws (e .position .0) ≡ true) × (e .header ≡ getD (drop (e .position .0) ws) 1 0)
+    → (listedAt sync ws (e .position .0) ≡ true) × (e .header ≡ getD (drop (e .position .0) ws) 1 0) × (e .end ≡ atEnd (drop (e .position .0) ws))
 listed-place sync ws e h =
     let t : Placed sync 0 0 ws e = placed sync 0 0 ws e h in
     let n : e .position .0 ≡ t .place = ap (λ (x : Entry). x .position .0) (t .named) ∙ zero-add (t .place) in
-    rw n (listed-at-yes sync (t .place) ws (t .free) (t .there), ap (λ (x : Entry). x .header) (t .named))
+    rw n (
+      listed-at-yes sync (t .place) ws (t .free) (t .there),
+      ap (λ (x : Entry). x .header) (t .named),
+      ap (λ (x : Entry). x .end) (t .named),
+    )

@@ -1,6 +1,7 @@
 pub mod Accounting
 pub mod ByPlace
 pub mod Listed
+pub mod Ends
 pub mod Answers
 pub mod Rows
 pub mod Stretch

@@ -17,11 +17,11 @@ use Rattle.chunk.specs.Header.{size, span, legal, headed, ends, confirmed}
 use Rattle.chunk.specs.Reading.{entry, reading, leftAt, listedAt}
 use Rattle.chunk.proofs.Headers.{legal-bounds, headed-parts, ends-within}
 use Rattle.chunk.proofs.Steps.{left-split, left-on}
-use Rattle.chunk_laws.specs.Stretch.{Laid, words, offset, wholeRow, clean}
+use Rattle.chunk_laws.specs.Stretch.{Laid, words, offset, empty, whole, wholeRow, clean}
 use Rattle.chunk_laws.specs.Listed.{Among}
 use Rattle.chunk_laws.specs.Resync.{from, moved, ReadAsAlone}
 use Rattle.chunk_laws.proofs.ByPlace.{left-end, reading-from, listed-moved, place-listed, listed-place}
-use Rattle.chunk_laws.proofs.Rows.{whole-legal, ends-step, ends-past, row-first, row-after, row-at, words-parts, row-listed}
+use Rattle.chunk_laws.proofs.Rows.{whole-legal, row-mark, ends-step, ends-past, row-first, row-after, row-at, words-parts, row-listed}
 use Rattle.chunk_laws.proofs.Stretch.{unbroken, clean-unbroken, unbroken-row, unbroken-after, not-inside, ends-at-boundary}
 
 -- ---- a chunk in hand
@@ -135,24 +135,25 @@ module _ (sync : ℕ) (a : List ℕ) (cs : List Laid) (k : unbroken sync cs ≡ 
 
   -- A chunk that begins 8,175 words or more after the stretch's start is listed: it would end 8,186 words or more after it.
   pub chunk-listed : (before : List Laid) (c : Laid) (after : List Laid) → cs ≡ before ++ c ∷ after → 8175 ≤ offset sync before
-      → Among (entry (length a + offset sync before) (c .header)) (reading sync (a ++ words sync cs))
+      → Among (entry (length a + offset sync before) (c .header) (empty after)) (reading sync (a ++ words sync cs))
   chunk-listed before c after e h =
       let p : ℕ = offset sync before in
       let s : List ℕ = words sync cs in
       let row : wholeRow (before ++ c ∷ after) ≡ true = rw e at (unbroken-row sync cs k) in
-      let sized : 9 ≤ size (c .header) = legal-bounds (c .header) (whole-legal c (row-first c after (row-after before (c ∷ after) row))) .0 in
+      let own : whole c ≡ true = row-first c after (row-after before (c ∷ after) row) in
+      let sized : 9 ≤ size (c .header) = legal-bounds (c .header) (whole-legal c own) .0 in
       let far : lost sync a cs ≤ p = elim (decLt p (lost sync a cs)) as (λ x. lost sync a cs ≤ p) [
         | yes d ↦ absurd (omega (arith, sized, lost-whole before c after e d, lost-few))
         | no d ↦ omega arith
       ] in
       let there : listedAt sync (a ++ s) (length a + p) ≡ true =
       listed-same p far ∙ ap (λ (l : List Laid). listedAt sync (words sync l) p) e ∙ row-listed sync before c after row in
-      rw (drop-append-add a s p, row-at sync before (c ∷ after) e) at (place-listed sync (length a + p) (a ++ s) there)
+      rw (drop-append-add a s p, row-at sync before (c ∷ after) e, row-mark sync c after own) at (place-listed sync (length a + p) (a ++ s) there)
 
   pub read-as-alone : ReadAsAlone sync a cs
   read-as-alone = record {
     late = λ before c after e h. chunk-listed before c after e (omega arith);
-    onward = λ before c after e h.
+    onward = λ before c after e end h.
         list-same (offset sync before) (listed-late (offset sync before) (listed-place sync (a ++ words sync cs) _ h .0));
   }
 

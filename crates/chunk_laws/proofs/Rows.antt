@@ -1,7 +1,7 @@
 -- A row of whole chunks from the first word on is listed whole, with no word skipped: reading goes from the end of a chunk to the next, so what
 -- stands inside the payloads does not matter. A written chunk, alone or before another, is such a row.
-use mathlib.Core.Path.{_≡_, refl, ap, _∙_}
-use mathlib.Core.Bool.{true}
+use mathlib.Core.Path.{_≡_, refl, ap, ap₂, _∙_}
+use mathlib.Core.Bool.{Bool, true}
 use mathlib.Core.List.{List, [], _∷_, _++_, append-assoc}
 use Prim.Native.Nat.{ℕ, suc, _+_, _≤_}
 use native.Mathlib.Omega.{arith}
@@ -9,13 +9,13 @@ use native.Mathlib.Nat.{zero-add, suc-add}
 use lib.ListN.{length, drop, take, length-append}
 use lib.Seq.{drop-append-seam, drop-at, take-at}
 use lib.Dec.{eqb, eqb·suc-suc}
-use borrow.Author.Tests.{eqb-true, eq-eqb}
+use borrow.Author.Tests.{eqb-true, eq-eqb, ne-eqb}
 use Rattle.base.proofs.Booleans.{and-left, and-right, and-both, or-right}
 use Rattle.chunk.specs.declared.Entry.{Entry}
-use Rattle.chunk.specs.Header.{size, span, legal, headed, ends, confirmed}
+use Rattle.chunk.specs.Header.{size, span, legal, headed, ends, confirmed, atEnd}
 use Rattle.chunk.specs.Reading.{entry, listed, skippedFrom, skipped, leftAt, listedAt}
 use Rattle.chunk.proofs.Steps.{listed-on, skipped-on, left-split, listed-at-yes}
-use Rattle.chunk_laws.specs.Stretch.{Laid, words, offset, whole, wholeRow}
+use Rattle.chunk_laws.specs.Stretch.{Laid, words, offset, empty, whole, wholeRow}
 use Rattle.chunk_laws.proofs.ByPlace.{list-step, skip-step, left-step, left-end}
 
 -- ---- what a whole chunk has
@@ -71,12 +71,21 @@ row-drop sync c cs k = drop-at (c .payload) (words sync cs) (size (c .header)) (
 within-row : (sync : ℕ) (c : Laid) (cs : List Laid) → whole c ≡ true → size (c .header) ≤ length (c .payload ++ words sync cs)
 within-row sync c cs k = omega (arith, length-append (c .payload) (words sync cs), whole-length c k)
 
+offset-cons : (sync : ℕ) (c : Laid) (cs : List Laid) → whole c ≡ true → offset sync (c ∷ cs) ≡ span (c .header) + offset sync cs
+offset-cons sync c cs k = omega (arith, length-append (c .payload) (words sync cs), whole-length c k)
+
+-- the first chunk ends with the row exactly where no other comes after it
+pub row-mark : (sync : ℕ) (c : Laid) (cs : List Laid) → whole c ≡ true → atEnd (words sync (c ∷ cs)) ≡ empty cs
+unfolding atEnd
+row-mark sync c [] k = eq-eqb (span (c .header)) (offset sync (c ∷ [])) (omega (arith, offset-cons sync c [] k))
+row-mark sync c (d ∷ ds) k = ne-eqb (span (c .header)) (offset sync (c ∷ d ∷ ds)) (λ e. omega (arith, offset-cons sync c (d ∷ ds) k))
+
 -- ---- the row is listed whole
 
--- every chunk of a row as it is listed, the first at the position `at`
+-- every chunk of a row as it is listed, the first at the position `at`; the last has the mark
 abbrev pub entries : ℕ → List Laid → List Entry
 entries at [] = []
-entries at (c ∷ cs) = entry at (c .header) ∷ entries (at + span (c .header)) cs
+entries at (c ∷ cs) = entry at (c .header) (empty cs) ∷ entries (at + span (c .header)) cs
 
 pub lists-row : (sync at : ℕ) (cs : List Laid) → wholeRow cs ≡ true → listed sync at 0 (words sync cs) ≡ entries at cs
 unfolding listed
@@ -85,7 +94,7 @@ lists-row sync at (c ∷ cs) k =
     let t : whole c ≡ true = row-first c cs k in
     let n : suc (suc at) + size (c .header) ≡ at + span (c .header) = omega arith in
     list-step sync at sync (c .header ∷ (c .payload ++ words sync cs)) true (row-confirmed sync c cs k)
-    ∙ ap (λ (l : List Entry). entry at (c .header) ∷ l)
+    ∙ ap₂ (λ (m : Bool) (l : List Entry). entry at (c .header) m ∷ l) (row-mark sync c cs t)
     (rw (listed-on sync (suc (suc at)) (size (c .header)) (c .payload ++ words sync cs) (within-row sync c cs t), row-drop sync c cs t, n)
     (lists-row sync (at + span (c .header)) cs (row-rest c cs k)))
 
@@ -126,9 +135,6 @@ left-rest sync c cs t k =
     let n : ℕ = suc (size (c .header)) in
     left-split sync 0 (span (c .header)) k (words sync (c ∷ cs))
     ∙ rw (left-step sync n sync inner true (row-confirmed sync c cs t) ∙ left-end sync n inner, row-drop sync c cs (row-first c cs t))
-
-offset-cons : (sync : ℕ) (c : Laid) (cs : List Laid) → whole c ≡ true → offset sync (c ∷ cs) ≡ span (c .header) + offset sync cs
-offset-cons sync c cs k = omega (arith, length-append (c .payload) (words sync cs), whole-length c k)
 
 left-row : (sync : ℕ) (before after : List Laid) → wholeRow (before ++ after) ≡ true
     → leftAt sync 0 (words sync (before ++ after)) (offset sync before) ≡ 0

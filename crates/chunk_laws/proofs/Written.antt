@@ -1,7 +1,7 @@
 -- What the writer wrote is given back. An accepted call leaves the words of its chunk in the room; the fields of the header word are those that it was
 -- made of, so it is a whole chunk. A row of whole chunks is listed whole, and where each begins no words of another are left, so one is listed there.
 use mathlib.Core.Path.{_≡_, refl, sym, ap, ap₂, _∙_}
-use mathlib.Core.Bool.{Bool, true, _&&_, _||_}
+use mathlib.Core.Bool.{Bool, true, not, _&&_, _||_}
 use mathlib.Core.List.{List, [], _∷_, _++_, map, append-nil}
 use Prim.Native.Nat.{ℕ, suc, _+_, _≤_}
 use native.Mathlib.Omega.{arith}
@@ -16,8 +16,8 @@ use Rattle.base.specs.Refusal.{verdict}
 use Rattle.base.proofs.Refused.{spared, answer-yes, settled-refusal, settled-length}
 use Rattle.base_room.proofs.RoomLaws.{writer-left}
 use Rattle.chunk.specs.declared.Entry.{Entry}
-use Rattle.chunk.specs.Header.{size, camera, kind, span, legalSize, legal, confirmed}
-use Rattle.chunk.specs.Reading.{entry, reading, skipped, leftAt, listedAt}
+use Rattle.chunk.specs.Header.{size, camera, kind, span, legalSize, legal, confirmed, atEnd}
+use Rattle.chunk.specs.Reading.{entry, reading, anyEnd, skipped, leftAt, listedAt}
 use Rattle.chunk.proofs.Headers.{legal-size}
 use Rattle.chunk.proofs.Steps.{left-split, listed-at-yes}
 use Rattle.chunk_reading.specs.Counting.{surveyCauses, surveyed, refused, surveyReply}
@@ -25,10 +25,10 @@ use Rattle.chunk_reading.specs.Place.{headingOf}
 use Rattle.chunk_writing.specs.Writing.{writable, writeCauses, headerWord, chunkOf, writeRoom}
 use Rattle.chunk_writing.proofs.Wrote.{writable-bounds}
 use Rattle.chunk_register.specs.Register.{listCauses, entered, listReply, listRoom}
-use Rattle.chunk_laws.specs.Stretch.{Laid, words, whole, wholeRow}
-use Rattle.chunk_laws.specs.Written.{WriterCall, reply, written, Accepted, recorded, told, GivenAt, entriesAt, GivenBack, WrittenAlone, WrittenInRows}
+use Rattle.chunk_laws.specs.Stretch.{Laid, words, empty, whole, wholeRow}
+use Rattle.chunk_laws.specs.Written.{WriterCall, reply, written, Accepted, recorded, told, allTold, GivenAt, entriesAt, GivenBack, WrittenAlone, WrittenInRows}
 use Rattle.chunk_laws.proofs.Listed.{place-answered}
-use Rattle.chunk_laws.proofs.Rows.{entries, row-first, row-rest, row-confirmed, row-drop, payload-there, left-rest, lists-row, skips-none}
+use Rattle.chunk_laws.proofs.Rows.{entries, row-first, row-rest, row-mark, row-confirmed, row-drop, payload-there, left-rest, lists-row, skips-none}
 
 -- ---- what the writer takes, room aside, and the chunk that it makes of it
 
@@ -115,25 +115,36 @@ recorded-words sync (c ∷ cs) a = ap₂ (λ (xs ys : List ℕ). xs ++ ys) (chun
 span-replied : (c : WriterCall) → reply c .refusal ≡ 0 → (p : ℕ) → p + span (laid c .header) ≡ p + reply c .length .0
 span-replied c z p = omega (arith, length-replied c z, size-written (c .kind) (c .camera) (c .payload) (accepted-taken c z))
 
+none-after : {A B : Type 0} (f : A → B) (xs : List A) → empty (map f xs) ≡ empty xs
+none-after f [] = refl
+none-after f (x ∷ xs) = refl
+
 row-entries : (p : ℕ) (cs : List WriterCall) → Accepted cs → entries p (map laid cs) ≡ entriesAt p cs
 row-entries p [] a = refl
 row-entries p (c ∷ cs) a =
-    ap (λ (es : List Entry). entry p (laid c .header) ∷ es)
+    ap₂ (λ (m : Bool) (es : List Entry). entry p (laid c .header) m ∷ es) (none-after laid cs)
     (ap (λ (n : ℕ). entries n (map laid cs)) (span-replied c (a .0) p) ∙ row-entries (p + reply c .length .0) cs (a .1))
 
 entries-many : (p : ℕ) (cs : List WriterCall) → length (entriesAt p cs) ≡ length cs
 entries-many p [] = refl
 entries-many p (c ∷ cs) = ap suc (entries-many (p + reply c .length .0) cs)
 
--- what a header word says
-header-told : (c : WriterCall) → reply c .refusal ≡ 0 → headingOf (laid c .header) ≡ told c
-header-told c z =
+-- the last has the mark
+last-marked : (p : ℕ) (cs : List WriterCall) → anyEnd (entriesAt p cs) ≡ not (empty cs)
+unfolding anyEnd
+last-marked p [] = refl
+last-marked p (c ∷ []) = refl
+last-marked p (c ∷ d ∷ cs) = last-marked (p + reply c .length .0) (d ∷ cs)
+
+-- what an entry says
+header-told : (c : WriterCall) (cs : List WriterCall) → reply c .refusal ≡ 0 → headingOf (laid c .header) (empty cs) ≡ told c cs
+header-told c cs z =
     let w = accepted-taken c z in
     rw (kind-written (c .kind) (c .camera) (c .payload) w, camera-written (c .kind) (c .camera) (c .payload) w, size-written (c .kind) (c .camera) (c .payload) w)
 
-headers-told : (p : ℕ) (cs : List WriterCall) → Accepted cs → map (λ (e : Entry). headingOf (e .header)) (entriesAt p cs) ≡ map told cs
+headers-told : (p : ℕ) (cs : List WriterCall) → Accepted cs → map (λ (e : Entry). headingOf (e .header) (e .end)) (entriesAt p cs) ≡ allTold cs
 headers-told p [] a = refl
-headers-told p (c ∷ cs) a = ap₂ (λ x xs. x ∷ xs) (header-told c (a .0)) (headers-told (p + reply c .length .0) cs (a .1))
+headers-told p (c ∷ cs) a = ap₂ (λ x xs. x ∷ xs) (header-told c cs (a .0)) (headers-told (p + reply c .length .0) cs (a .1))
 
 -- ---- what the calls that read answer
 
@@ -149,8 +160,9 @@ each-given sync ws short p (c ∷ cs) a free here =
     let there : listedAt sync ws p ≡ true = listed-at-yes sync p ws free (ap (confirmed sync) here ∙ row-confirmed sync (laid c) (map laid cs) row) in
     let answers = place-answered sync ws short p there in
     let word : getD (drop p ws) 1 0 ≡ h = ap (λ (l : List ℕ). getD l 1 0) here in
+    let mark : atEnd (drop p ws) ≡ empty cs = ap atEnd here ∙ row-mark sync (laid c) (map laid cs) t ∙ none-after laid cs in
     let next : p + span h ≡ p + reply c .length .0 = span-replied c (a .0) p in (
-      answers .0 ∙ ap headingOf word ∙ header-told c (a .0),
+      answers .0 ∙ ap₂ headingOf word mark ∙ header-told c cs (a .0),
       answers .1
           ∙ ap (λ (x : ℕ). take (size x) (drop (p + 2) ws)) word
           ∙ ap (take (size h)) (sym (drop-drop 2 p ws) ∙ ap (drop 2) here)
@@ -172,14 +184,15 @@ module _ (sync : ℕ) (ws : List ℕ) (short : length ws ≤ recordingLimit) (cs
   many-given : length (reading sync ws) ≡ length cs
   many-given = ap length list-given ∙ entries-many 0 cs
 
-  counted : surveyed 0 (length (reading sync ws)) (skipped sync ws) ≡ surveyed 0 (length cs) 0
-  counted = ap₂ (surveyed 0) many-given (ap (skipped sync) e ∙ skips-none sync (map laid cs) (row-whole cs a))
+  counted : surveyed 0 (length (reading sync ws)) (skipped sync ws) (anyEnd (reading sync ws)) ≡ surveyed 0 (length cs) 0 (not (empty cs))
+  counted =
+      rw (many-given, ap (skipped sync) e ∙ skips-none sync (map laid cs) (row-whole cs a), ap anyEnd list-given ∙ last-marked 0 cs)
 
-  survey-given : surveyReply sync ws ≡ surveyed 0 (length cs) 0
+  survey-given : surveyReply sync ws ≡ surveyed 0 (length cs) 0 (not (empty cs))
   survey-given = answer-yes (verdict (surveyCauses ws)) refused _ (rw (le-ltb recordingLimit (length ws) short)) ∙ counted
 
   register-given : (register : List Entry) → length cs ≤ length register
-      → (listReply sync ws (length register) ≡ surveyed 0 (length cs) 0) × (listRoom sync ws register ≡ entered (entriesAt 0 cs) register)
+      → (listReply sync ws (length register) ≡ surveyed 0 (length cs) 0 (not (empty cs))) × (listRoom sync ws register ≡ entered (entriesAt 0 cs) register)
   unfolding listReply listRoom
   register-given register enough =
       let z : verdict (listCauses sync ws (length register)) ≡ 0 =

@@ -5,7 +5,7 @@ use mathlib.Core.List.{List, [], _∷_}
 use lib.ListN.{replicate}
 use Rattle.base.specs.Refusal.{answer, settled}
 use Rattle.base_room.specs.Room.{put}
-use Rattle.chunk.specs.Header.{legalSize, legal, headed, ends, confirmed}
+use Rattle.chunk.specs.Header.{legalSize, legal, headed, ends, confirmed, atEnd, checkAt}
 use Rattle.chunk.specs.Examples.{listing}
 use Rattle.chunk_writing.specs.Writing.{writeRoom}
 use Rattle.chunk_laws.specs.Answers.{checked}
@@ -25,7 +25,7 @@ pub callsRecorded : 0x0007 ∷ recorded 0x5AF3 calls ≡ listing
 unfolding settled answer legalSize writeRoom put
 callsRecorded = refl
 
--- the header check tells the places of its chunks from the others
-pub callsChecked : (checked 0x5AF3 listing 0 ≡ 0) × (checked 0x5AF3 listing 1 ≡ 1) × (checked 0x5AF3 listing 2 ≡ 0) × (checked 0x5AF3 listing 12 ≡ 1)
-unfolding confirmed headed ends legal legalSize
+-- the header check tells the places of its chunks from the others, and that the second ends with the recording
+pub callsChecked : (checked 0x5AF3 listing 0 ≡ 0) × (checked 0x5AF3 listing 1 ≡ 1) × (checked 0x5AF3 listing 2 ≡ 0) × (checked 0x5AF3 listing 12 ≡ 2)
+unfolding checkAt atEnd confirmed headed ends legal legalSize
 callsChecked = (refl, refl, refl, refl)

@@ -3,10 +3,10 @@
 -- 8,185 words into the stretch and ends where a chunk of it begins, and so is confirmed. No chunk is lost that begins later: the law `chunk-listed`.
 use Prim.Native.Nat.{ℕ, _+_}
 use mathlib.Core.Path.{_≡_, refl}
-use mathlib.Core.Bool.{true}
+use mathlib.Core.Bool.{true, false}
 use mathlib.Core.List.{List, [], _∷_, _++_}
 use lib.ListN.{replicate}
-use Rattle.chunk.specs.Header.{legal, legalSize, headed, ends, confirmed}
+use Rattle.chunk.specs.Header.{legal, legalSize, headed, ends, confirmed, atEnd}
 use Rattle.chunk.specs.Reading.{entry, listed, reading}
 use Rattle.chunk_laws.specs.Stretch.{Laid, words, offset, lacks, clean}
 
@@ -33,6 +33,6 @@ pub hidden-begins : offset sync before ≡ 8174
 hidden-begins = refl
 
 -- what is listed is the chunk that hides the others, and then the stretch's last
-pub hidden : reading sync (sync ∷ words sync stretch) ≡ entry 0 sync ∷ entry 8186 0x2009 ∷ []
-unfolding listed confirmed headed ends legal legalSize
+pub hidden : reading sync (sync ∷ words sync stretch) ≡ entry 0 sync false ∷ entry 8186 0x2009 true ∷ []
+unfolding listed atEnd confirmed headed ends legal legalSize
 hidden = refl

@@ -1,19 +1,13 @@
 -- FORMAT, "Chunks": words inside no listed chunk are skipped. The same count, read off the list.
 use Prim.Native.Nat.{ℕ, zero, suc, _+_, _≤_}
 use mathlib.Core.Path.{_≡_}
-use mathlib.Core.Bool.{Bool, false, cond, _&&_, _||_}
+use mathlib.Core.Bool.{Bool, false, cond, _||_}
 use mathlib.Core.List.{List, [], _∷_}
 use lib.ListN.{length}
-use lib.Dec.{leb, ltb}
 use Rattle.base.specs.Limit.{recordingLimit}
 use Rattle.chunk.specs.declared.Entry.{Entry}
-use Rattle.chunk.specs.Header.{span}
-use Rattle.chunk.specs.Reading.{reading, skipped, listedWords}
+use Rattle.chunk.specs.Reading.{reading, skipped, listedWords, within}
 use Rattle.chunk_reading.specs.Counting.{surveyReply}
-
--- the place p lies inside the chunk of this entry
-abbrev pub within : ℕ → Entry → Bool
-within p e = leb (e .position .0) p && ltb p (e .position .0 + span (e .header))
 
 -- the place p lies inside a chunk of the list
 unfoldable pub covered : List Entry → ℕ → Bool

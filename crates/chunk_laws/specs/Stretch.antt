@@ -1,6 +1,6 @@
 -- Rows of chunks: their words, and what makes a row a clean stretch.
 use Prim.Native.Nat.{ℕ}
-use mathlib.Core.Bool.{Bool, true, not, _&&_}
+use mathlib.Core.Bool.{Bool, true, false, not, _&&_}
 use mathlib.Core.List.{List, [], _∷_, _++_}
 use lib.ListN.{length}
 use lib.Dec.{eqb}
@@ -19,6 +19,11 @@ words sync (c ∷ cs) = sync ∷ c .header ∷ (c .payload ++ words sync cs)
 -- how many words after the row's start the chunk begins that comes after the chunks `before`
 abbrev pub offset : ℕ → List Laid → ℕ
 offset sync before = length (words sync before)
+
+-- no chunk comes after: the chunk before these ends with the row
+abbrev pub empty : {A : Type 0} → List A → Bool
+empty [] = true
+empty (c ∷ cs) = false
 
 -- a legal header word, and as many words after it as it says
 abbrev pub whole : Laid → Bool

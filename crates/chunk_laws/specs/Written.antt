@@ -1,6 +1,7 @@
 -- FORMAT, "Chunks" and "The three demands": what the writer wrote is given back by the calls that read, alone and in rows.
 use Prim.Native.Nat.{ℕ, _+_, _≤_}
 use mathlib.Core.Path.{_≡_}
+use mathlib.Core.Bool.{not}
 use mathlib.Core.List.{List, [], _∷_, _++_, map}
 use lib.ListN.{length, take}
 use Rattle.base.specs.Limit.{recordingLimit}
@@ -12,6 +13,7 @@ use Rattle.chunk_reading.specs.Counting.{surveyed, surveyReply}
 use Rattle.chunk_reading.specs.Place.{heading, headingOf, atReply, payloadReply}
 use Rattle.chunk_writing.specs.Writing.{headerWord, writeReply, writeRoom}
 use Rattle.chunk_register.specs.Register.{entered, listReply, listRoom}
+use Rattle.chunk_laws.specs.Stretch.{empty}
 
 -- ---- calls of the writer
 
@@ -42,31 +44,36 @@ recorded sync (c ∷ cs) = written sync c ++ recorded sync cs
 
 -- ---- what the calls that read give back
 
--- the kind, the camera and the size of a written chunk
-abbrev pub told : WriterCall → Heading
-told c = heading 0 (c .kind) (c .camera) (length (c .payload))
+-- the kind, the camera and the size of a written chunk; it ends with the recording where none of these is written after it
+abbrev pub told : WriterCall → List WriterCall → Heading
+told c after = heading 0 (c .kind) (c .camera) (length (c .payload)) (empty after)
+
+-- of each
+abbrev pub allTold : List WriterCall → List Heading
+allTold [] = []
+allTold (c ∷ cs) = told c cs ∷ allTold cs
 
 -- the calls for a place give each chunk back, the first at the place p and each other where the one before it ends
 abbrev pub GivenAt : ℕ → List ℕ → ℕ → List WriterCall → Type 0
 GivenAt sync ws p [] = Unit {0}
-GivenAt sync ws p (c ∷ cs) = (atReply sync ws p ≡ told c) × (payloadReply sync ws p ≡ c .payload) × GivenAt sync ws (p + reply c .length .0) cs
+GivenAt sync ws p (c ∷ cs) = (atReply sync ws p ≡ told c cs) × (payloadReply sync ws p ≡ c .payload) × GivenAt sync ws (p + reply c .length .0) cs
 
--- the entry of each chunk, at the same places
+-- the entry of each chunk, at the same places: the last alone has the mark
 abbrev pub entriesAt : ℕ → List WriterCall → List Entry
 entriesAt p [] = []
-entriesAt p (c ∷ cs) = entry p (headerWord (c .kind) (c .camera) (length (c .payload))) ∷ entriesAt (p + reply c .length .0) cs
+entriesAt p (c ∷ cs) = entry p (headerWord (c .kind) (c .camera) (length (c .payload))) (empty cs) ∷ entriesAt (p + reply c .length .0) cs
 
 -- The words of a recording give back what these calls wrote.
 pub record GivenBack (sync : ℕ) (ws : List ℕ) (cs : List WriterCall) : Type 0 where
-  -- the survey counts the chunks, and no skipped word
-  pub survey : surveyReply sync ws ≡ surveyed 0 (length cs) 0
-  -- the calls for a place give kind, camera, size and payload of each
+  -- the survey counts the chunks, and no skipped word; where there is a chunk, one ends with the recording
+  pub survey : surveyReply sync ws ≡ surveyed 0 (length cs) 0 (not (empty cs))
+  -- the calls for a place give kind, camera, size, mark and payload of each
   pub each : GivenAt sync ws 0 cs
   -- a register of enough entries gets one for each, and its other entries are as they were
   pub register : (register : List Entry) → length cs ≤ length register
-      → (listReply sync ws (length register) ≡ surveyed 0 (length cs) 0) × (listRoom sync ws register ≡ entered (entriesAt 0 cs) register)
-  -- whose header words say kind, camera and size of each
-  pub headers : map (λ (e : Entry). headingOf (e .header)) (entriesAt 0 cs) ≡ map told cs
+      → (listReply sync ws (length register) ≡ surveyed 0 (length cs) 0 (not (empty cs))) × (listRoom sync ws register ≡ entered (entriesAt 0 cs) register)
+  -- which say kind, camera, size and mark of each
+  pub headers : map (λ (e : Entry). headingOf (e .header) (e .end)) (entriesAt 0 cs) ≡ allTold cs
 
 -- a written chunk alone is given back
 abbrev pub WrittenAlone : Type 0

@@ -16,15 +16,17 @@ pub fn refused(number: u8) -> Survey
         refusal: number,
         chunks: 0,
         skipped: Words(0),
+        end: false,
     }
 }
 
-// The chunks and the skipped words of any words.
+// The chunks and the skipped words of any words, marked where a chunk ends with them.
 pub fn count(words: &[u16], sync: u16) -> Counts
     ensures { λ r. ⌜ r ≡ countReply sync (now (words .entry)) ⌝ }
 {
     let mut chunks: usize = 0;
     let mut skipped: usize = 0;
+    let mut end = false;
     let mut at: usize = 0;
     loop {
         let found = search::next(words, sync, Words(at));
@@ -33,16 +35,18 @@ pub fn count(words: &[u16], sync: u16) -> Counts
             return Counts {
                 chunks: chunks,
                 skipped: Words(all),
+                end: end,
             };
         };
         let begins = entry.position.0;
         chunks += 1;
         skipped += begins - at;
+        end = end | entry.end;
         at = next.0;
     }
 }
 
-// The chunks and the skipped words of a recording.
+// The chunks and the skipped words of a recording, marked where a chunk ends with it.
 pub fn survey(recording: &[u16], sync: u16) -> Survey
     ensures { λ r. ⌜ r ≡ surveyReply sync (now (recording .entry)) ⌝ }
 {
@@ -55,5 +59,6 @@ pub fn survey(recording: &[u16], sync: u16) -> Survey
         refusal: 0,
         chunks: counts.chunks,
         skipped: skipped,
+        end: counts.end,
     }
 }

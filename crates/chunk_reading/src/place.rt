@@ -55,22 +55,24 @@ fn refused(number: u8) -> Heading
         kind: 0,
         camera: 0,
         size: Words(0),
+        end: false,
     }
 }
 
-// The fields of a header word.
-fn heading_of(word: u16) -> Heading
-    ensures { λ r. ⌜ r ≡ headingOf word ⌝ }
+// The fields of a header word, with the mark.
+fn heading_of(word: u16, end: bool) -> Heading
+    ensures { λ r. ⌜ r ≡ headingOf word end ⌝ }
 {
     Heading {
         refusal: 0,
         kind: header::kind_of(word),
         camera: header::camera_of(word),
         size: header::size_of(word),
+        end: end,
     }
 }
 
-// The chunk listed at a place.
+// The chunk listed at a place, marked where the place past it is the recording's end.
 pub fn at(recording: &[u16], sync: u16, place: Words) -> Heading
     ensures { λ r. ⌜ r ≡ atReply sync (now (recording .entry)) (place .0) ⌝ }
 {
@@ -79,7 +81,9 @@ pub fn at(recording: &[u16], sync: u16, place: Words) -> Heading
     if verdict != 0 {
         return refused(verdict);
     }
-    heading_of(recording[begins + 1])
+    let word = recording[begins + 1];
+    let past = begins + header::HEADER.0 + header::size_of(word).0;
+    heading_of(word, past == recording.len())
 }
 
 // The payload of the chunk listed at a place, as a part of the recording; empty where `at` refuses.

@@ -1,5 +1,6 @@
 -- The loop that fills the register: after k turns the first k chunks stand in it, and the chunks from the place reached are the others.
 use mathlib.Core.Path.{_≡_, refl, sym, ap, subst, _∙_}
+use mathlib.Core.Bool.{false}
 use mathlib.Core.List.{List, _∷_, _++_}
 use Prim.Native.Nat.{ℕ, suc, _+_, _≤_, _<_}
 use native.Mathlib.Nat.{zero-add}
@@ -57,8 +58,8 @@ module _ (sync : ℕ) (ws : List ℕ) (before : List Entry) where
 
     pub entry-filled : k < n → (t : Step) → t ≡ stepFrom sync ws at → Filling sync ws n before (set register k (t .entry)) (k + 1) (t .end .0)
     entry-filled h t e =
-        let c : Entry = getD chunks k (entry 0 0) in
-        let l : listed sync at 0 (drop at ws) ≡ c ∷ drop (suc k) chunks = f .ahead ∙ drop-cons chunks k (entry 0 0) (omega (arith, f .few)) in
+        let c : Entry = getD chunks k (entry 0 0 false) in
+        let l : listed sync at 0 (drop at ws) ≡ c ∷ drop (suc k) chunks = f .ahead ∙ drop-cons chunks k (entry 0 0 false) (omega (arith, f .few)) in
         let s = step-found at c (drop (suc k) chunks) l t e in
         record {
           within = omega arith;
@@ -68,7 +69,7 @@ module _ (sync : ℕ) (ws : List ℕ) (before : List Entry) where
               ap (λ (r : List Entry). set r k (t .entry)) (f .pasted)
               ∙ ap (set (paste before 0 chunks k) k) (s .0)
               ∙ ap (λ (m : ℕ). set (paste before 0 chunks k) m c) (sym (zero-add k))
-              ∙ paste-suc before 0 chunks k (entry 0 0) (omega (arith, f .fits)) (omega (arith, f .few))
+              ∙ paste-suc before 0 chunks k (entry 0 0 false) (omega (arith, f .fits)) (omega (arith, f .few))
               ∙ ap (paste before 0 chunks) (sym (add-one k));
           long = length-set register k (t .entry) ∙ f .long;
           ahead = s .1 ∙ ap (λ (m : ℕ). drop m chunks) (sym (add-one k));

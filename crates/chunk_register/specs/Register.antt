@@ -13,7 +13,8 @@ use Rattle.chunk_reading.specs.Counting.{surveyCauses, refused, surveyOf}
 abbrev pub listCauses : ℕ → List ℕ → ℕ → Causes
 listCauses sync ws entries = surveyCauses ws ++ (noRoom, ltb entries (length (reading sync ws))) ∷ []
 
--- the reply for a register of so many entries: the number of chunks and of skipped words; a refusal has zeros
+-- the reply for a register of so many entries: the number of chunks and of skipped words, marked where a chunk ends with the recording; a refusal has
+-- zeros and no mark
 unfoldable pub listReply : ℕ → List ℕ → ℕ → Survey
 listReply sync ws entries = answer (verdict (listCauses sync ws entries)) refused (surveyOf sync ws)
 

@@ -27,7 +27,7 @@ pub fn look(recording: &[u16], sync: u16, entries: usize) -> Survey
     survey
 }
 
-// The next chunk at or after a place; zeros where none is left.
+// The next chunk at or after a place; zeros and no mark where none is left.
 pub fn step_from(recording: &[u16], sync: u16, at: Words) -> Step
     ensures { λ r. ⌜ r ≡ stepFrom sync (now (recording .entry)) (at .0) ⌝ }
 {
@@ -37,6 +37,7 @@ pub fn step_from(recording: &[u16], sync: u16, at: Words) -> Step
             entry: Entry {
                 position: Words(0),
                 header: 0,
+                end: false,
             },
             end: Words(0),
         };

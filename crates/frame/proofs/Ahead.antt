@@ -25,12 +25,12 @@ On ws p q = (p < q) × (q ≤ length ws)
 
 abbrev pub Ahead : List ℕ → ℕ → Piece → Type 0
 Ahead ws p (Piece.Frame at f on) = On ws p (on .0)
-Ahead ws p (Piece.Stray at on) = On ws p (on .0)
+Ahead ws p (Piece.Stray e on) = On ws p (on .0)
 Ahead ws p Piece.End = Unit {0}
 
 sooner : (ws : List ℕ) (p q : ℕ) → p ≤ q → (x : Piece) → Ahead ws q x → Ahead ws p x
 sooner ws p q h (Piece.Frame at f on) a = (omega arith, a .1)
-sooner ws p q h (Piece.Stray at on) a = (omega arith, a .1)
+sooner ws p q h (Piece.Stray e on) a = (omega arith, a .1)
 sooner ws p q h Piece.End a = tt
 
 -- a frame has words, and ends within the recording

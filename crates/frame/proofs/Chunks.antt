@@ -9,7 +9,6 @@ use lib.Dec.{eqb, leb}
 use Rattle.base.proofs.Booleans.{and-left, and-right}
 use Rattle.chunk.specs.declared.Entry.{Entry}
 use Rattle.chunk.specs.Header.{size, kind, span, imageSize, healthSize, legalSize, legal, headed, ends, confirmed}
-use Rattle.chunk.specs.Reading.{entry}
 use Rattle.chunk.proofs.Headers.{headed-parts}
 use Rattle.parity_units.specs.Split.{dataWords, dataWordsIn}
 use Rattle.parity_units.proofs.Split.{data-words, words-append}
@@ -25,13 +24,13 @@ image-size sync ws e i =
     rw i at (and-right (leb 1 (size h) && leb (size h) 8190) (cond (eqb (kind h) 0) (imageSize (size h)) (healthSize (size h))) s)
 
 -- the payload of a chunk that lies within the words
-pub payload-length : (ws : List ℕ) (at h : ℕ) → at + span h ≤ length ws → length (payloadOf ws (entry at h)) ≡ size h
-payload-length ws at h w = omega (arith, length-take (size h) (drop (at + 2) ws), length-drop (at + 2) ws)
+pub payload-length : (ws : List ℕ) (e : Entry) → e .position .0 + span (e .header) ≤ length ws → length (payloadOf ws e) ≡ size (e .header)
+payload-length ws e w = omega (arith, length-take (size (e .header)) (drop (e .position .0 + 2) ws), length-drop (e .position .0 + 2) ws)
 
 -- one chunk more
-pub data-more : (ws : List ℕ) (at h : ℕ) (es : List Entry) → at + span h ≤ length ws
-    → dataWords (unitsOf ws (entry at h ∷ es)) ≡ dataWordsIn (size h) + dataWords (unitsOf ws es)
+pub data-more : (ws : List ℕ) (e : Entry) (es : List Entry) → e .position .0 + span (e .header) ≤ length ws
+    → dataWords (unitsOf ws (e ∷ es)) ≡ dataWordsIn (size (e .header)) + dataWords (unitsOf ws es)
 unfolding unitsOf
-data-more ws at h es w =
-    words-append (chunkUnits ws (entry at h)) (unitsOf ws es)
-    ∙ ap (λ (n : ℕ). n + dataWords (unitsOf ws es)) (data-words (payloadOf ws (entry at h)) ∙ ap dataWordsIn (payload-length ws at h w))
+data-more ws e es w =
+    words-append (chunkUnits ws e) (unitsOf ws es)
+    ∙ ap (λ (n : ℕ). n + dataWords (unitsOf ws es)) (data-words (payloadOf ws e) ∙ ap dataWordsIn (payload-length ws e w))

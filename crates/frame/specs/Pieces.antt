@@ -6,7 +6,7 @@ use lib.ListN.{drop}
 use lib.Dec.{eqb}
 use Rattle.chunk.specs.declared.Entry.{Entry}
 use Rattle.chunk.specs.Header.{span}
-use Rattle.chunk.specs.Reading.{listed, reading}
+use Rattle.chunk.specs.Reading.{entry, listed, reading}
 use Rattle.frame.specs.declared.Description.{Description}
 use Rattle.frame.specs.declared.Piece.{Piece}
 use Rattle.frame.specs.Shape.{starts, continues, full, frameWords}
@@ -48,7 +48,7 @@ frameThere sync ws p = Piece.Frame (record { 0 = p }) (described sync (drop p ws
 
 -- a stray continuation, and where it ends
 abbrev pub strayThere : Entry → Piece
-strayThere e = Piece.Stray (e .position) (record { 0 = e .position .0 + span (e .header) })
+strayThere e = Piece.Stray e (record { 0 = e .position .0 + span (e .header) })
 
 -- the first of these frames and strays
 unfoldable pub firstPiece : ℕ → List ℕ → List Entry → Piece
@@ -65,20 +65,25 @@ nextPiece sync ws p = firstPiece sync ws (piecesFrom sync ws p)
 abbrev pub pieceNumber : Piece → ℕ
 pieceNumber Piece.End = 0
 pieceNumber (Piece.Frame p d end) = 1
-pieceNumber (Piece.Stray p end) = 2
+pieceNumber (Piece.Stray e end) = 2
 
--- the place where it stands, what the frame is, and the place where it ends; zeros where the case has none
+-- the place where it stands, what the frame is, what the stray is, and the place where it ends; zeros and false where the case has none
 abbrev pub piecePlace : Piece → ℕ
 piecePlace Piece.End = 0
 piecePlace (Piece.Frame p d end) = p .0
-piecePlace (Piece.Stray p end) = p .0
+piecePlace (Piece.Stray e end) = e .position .0
 
 abbrev pub pieceFrame : Piece → Description
-pieceFrame Piece.End = description 0 0 false 0
+pieceFrame Piece.End = description 0 0 false 0 false
 pieceFrame (Piece.Frame p d end) = d
-pieceFrame (Piece.Stray p end) = description 0 0 false 0
+pieceFrame (Piece.Stray e end) = description 0 0 false 0 false
+
+abbrev pub pieceStray : Piece → Entry
+pieceStray Piece.End = entry 0 0 false
+pieceStray (Piece.Frame p d end) = entry 0 0 false
+pieceStray (Piece.Stray e end) = e
 
 abbrev pub pieceEnd : Piece → ℕ
 pieceEnd Piece.End = 0
 pieceEnd (Piece.Frame p d end) = end .0
-pieceEnd (Piece.Stray p end) = end .0
+pieceEnd (Piece.Stray e end) = end .0

@@ -12,7 +12,7 @@ ghost use lib.ListN.{drop};
 ghost use Rattle.frame.specs.Walk.{startsFrame};
 ghost use Rattle.frame.specs.Pieces.{frameThere, nextPiece};
 
-// The frame that starts at a place, and the place where it ends.
+// The frame that starts at a place, and the place where it ends. Its chunks stand end to end, so one of them ends with the recording where the frame does.
 fn frame_there(words: &[u16], sync: u16, place: Words) -> Piece
     requires { ⌜ startsFrame sync (drop (place .0) (now words)) ≡ true ⌝ }
     ensures { λ r. ⌜ r ≡ frameThere sync (now (words .entry)) (place .0) ⌝ }
@@ -23,11 +23,13 @@ fn frame_there(words: &[u16], sync: u16, place: Words) -> Piece
     let end = reach.end.0;
     let length = reach.length;
     let camera = header::camera_of(from[1]);
+    let closing = shape::closes(&from[end..], sync, camera);
     let description = Description {
         camera,
         chunks: reach.chunks,
-        complete: shape::closes(&from[end..], sync, camera),
+        complete: header::is_chunk(closing),
         length,
+        end: (end == from.len()) | header::is_at_end(closing),
     };
     let past = at + end;
     Piece::Frame(place, description, Words(past))
@@ -48,7 +50,7 @@ pub fn next(words: &[u16], sync: u16, from: Words) -> Piece
                     if crate::starts(entry.header) {
                         return frame_there(words, sync, place);
                     }
-                    return Piece::Stray(place, next);
+                    return Piece::Stray(entry, next);
                 }
                 at = next.0;
             }

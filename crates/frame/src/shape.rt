@@ -20,11 +20,7 @@ pub struct Reach {
 fn confirmed(words: &[u16], sync: u16) -> bool
     ensures { λ r. ⌜ r ≡ confirmed sync (now (words .entry)) ⌝ }
 {
-    let here = header::check(words, sync, Words(0));
-    match here {
-        Check::Confirmed => true,
-        Check::NotAChunk => false,
-    }
+    header::is_chunk(header::check(words, sync, Words(0)))
 }
 
 // Whether a continuation stands at the front of these words.
@@ -57,14 +53,17 @@ pub fn measure(words: &[u16], sync: u16) -> Reach
     }
 }
 
-// Whether a health chunk stands at the front of these words whose first packet is sound and of the camera's type: the type is looked at first.
-pub fn closes(words: &[u16], sync: u16, camera: u16) -> bool
+// What closes a frame at the front of these words: a health chunk whose first packet is sound and of the camera's type. The type is looked at first.
+pub fn closes(words: &[u16], sync: u16, camera: u16) -> Check
     ensures { λ r. ⌜ r ≡ closesFrame sync (now (words .entry)) camera ⌝ }
 {
     let health = header::kind_of(base_room::word_at(words, Words(1))) == 1;
     let observed = base_room::word_at(words, HEADER) as u32 == 3 + camera as u32;
     if !(health & observed) {
-        return false;
+        return Check::NotAChunk;
     }
-    confirmed(words, sync) & packet::sound_at(words, HEADER)
+    if !packet::sound_at(words, HEADER) {
+        return Check::NotAChunk;
+    }
+    header::check(words, sync, Words(0))
 }

@@ -14,23 +14,23 @@ use borrow.Author.Tests.{not-false, eq-eqb, ne-eqb, eqb-true, le-leb, lt-ltb}
 use Rattle.base.proofs.Booleans.{and-left, and-right, or-false, and-both}
 use Rattle.chunk.specs.declared.Entry.{Entry}
 use Rattle.chunk.specs.Header.{size, span, legal, headed, confirmed}
-use Rattle.chunk.specs.Reading.{entry, reading, listedWords, leftAt, listedAt}
+use Rattle.chunk.specs.Reading.{entry, reading, listedWords, within, leftAt, listedAt}
 use Rattle.chunk.proofs.Headers.{headed-parts, confirmed-within}
 use Rattle.chunk_laws.specs.Stretch.{Laid, words, whole, wholeRow}
-use Rattle.chunk_laws.specs.Outside.{within, covered}
+use Rattle.chunk_laws.specs.Outside.{covered}
 use Rattle.chunk_laws.specs.Listed.{Among}
 use Rattle.chunk_laws.proofs.ByPlace.{listed-place}
 use Rattle.chunk_laws.proofs.Rows.{entries, lists-row}
 use Rattle.parity_units.specs.Split.{unitsIn}
 use Rattle.frame.specs.Shape.{starts, continues, full, joining, frameOf, frameChunks, frameWords}
-use Rattle.frame.specs.Picture.{payloadOf, unitsOf, frameUnits}
+use Rattle.frame.specs.Picture.{payloadOf, chunkUnits, unitsOf, frameUnits}
 use Rattle.frame.specs.Walk.{startsFrame}
 use Rattle.frame.specs.Pieces.{framesAndStrays}
 use Rattle.frame.proofs.Joining.{joining-one, listedFrom}
 use Rattle.frame.proofs.Chunks.{payload-length}
 use Rattle.frame.proofs.Walking.{first-and-ahead, frame-ends-inside}
 use Rattle.frame.proofs.Stepping.{pick, pieces-one}
-use Rattle.frame_laws.specs.Local.{EndToEnd, Local, FramesLocal, StrayAfterGap}
+use Rattle.frame_laws.specs.Local.{EndToEnd, unmarked, Local, FramesLocal, StrayAfterGap}
 
 -- ---- the chunks that join
 
@@ -105,9 +105,10 @@ module _ (sync : ℕ) (ws : List ℕ) where
   rowOf [] = []
   rowOf (e ∷ es) = record { header = e .header; payload = payloadOf ws e } ∷ rowOf es
 
-  row-entries : (at : ℕ) (es : List Entry) → EndToEnd at es → entries at (rowOf es) ≡ es
+  row-entries : (at : ℕ) (es : List Entry) → EndToEnd at es → unmarked (entries at (rowOf es)) ≡ unmarked es
   row-entries at [] p = refl
-  row-entries at (e ∷ es) p = ap₂ (λ (n : ℕ) (l : List Entry). entry n (e .header) ∷ l) (sym (p .0)) (row-entries (at + span (e .header)) es (p .1))
+  row-entries at (e ∷ es) p =
+      ap₂ (λ (n : ℕ) (l : List Entry). entry n (e .header) false ∷ l) (sym (p .0)) (row-entries (at + span (e .header)) es (p .1))
 
   row-whole : (es : List Entry) → ((e : Entry) → Among e es → HeaderAt sync ws e) → wholeRow (rowOf es) ≡ true
   unfolding wholeRow confirmed
@@ -116,7 +117,7 @@ module _ (sync : ℕ) (ws : List ℕ) where
       let h : ℕ = e .header in
       let t : HeaderAt sync ws e = s e (inl refl) in
       let l : legal h ≡ true = rw (t .word) (headed-parts sync (drop (e .position .0) ws) (and-left _ _ (t .confirms)) .2) in
-      let n : length (payloadOf ws e) ≡ size h = payload-length ws (e .position .0) h (ends-within sync ws e t) in
+      let n : length (payloadOf ws e) ≡ size h = payload-length ws e (ends-within sync ws e t) in
       and-both (whole (record { header = h; payload = payloadOf ws e })) _ (and-both (legal h) _ l (eq-eqb (length (payloadOf ws e)) (size h) n))
       (row-whole es (λ f i. s f (inr i)))
 
@@ -135,8 +136,10 @@ module _ (sync : ℕ) (ws : List ℕ) where
 
 -- ---- a payload inside the first n words
 
-payload-within : (n : ℕ) (ws : List ℕ) (at h : ℕ) → at + span h ≤ n → n ≤ length ws → payloadOf (take n ws) (entry at h) ≡ payloadOf ws (entry at h)
-payload-within n ws at h f l =
+payload-within : (n : ℕ) (ws : List ℕ) (e : Entry) → e .position .0 + span (e .header) ≤ n → n ≤ length ws → payloadOf (take n ws) e ≡ payloadOf ws e
+payload-within n ws e f l =
+    let at : ℕ = e .position .0 in
+    let h : ℕ = e .header in
     let k : length (take n ws) ≡ n = omega (arith, length-take n ws) in
     sym (
     ap (λ (v : List ℕ). take (size h) (drop (at + 2) v)) (sym (take-append-drop n ws))
@@ -151,7 +154,7 @@ units-within n ws l at [] p f = refl
 units-within n ws l at (e ∷ es) p f =
     let h : ℕ = e .header in
     ap₂ (λ (x : List ℕ) (us : List (List ℕ)). unitsIn x ++ us)
-    (payload-within n ws (e .position .0) h (omega (arith, p .0)) l)
+    (payload-within n ws e (omega (arith, p .0)) l)
     (units-within n ws l (at + span h) es (p .1) (omega arith))
 
 -- ---- the frame
@@ -166,6 +169,35 @@ frame-again : (es : List Entry) → frameOf (frameOf es) ≡ frameOf es
 unfolding frameOf
 frame-again [] = refl
 frame-again (e ∷ es) = ap (λ (l : List Entry). e ∷ l) (joined (span (e .header)) (full (e .header)) es .again)
+
+-- the rule that joins chunks looks at no mark
+joining-unmarked : (end : ℕ) (all : Bool) (es : List Entry) → joining end all (unmarked es) ≡ unmarked (joining end all es)
+unfolding joining
+joining-unmarked end all [] = refl
+joining-unmarked end all (e ∷ es) =
+    by-join (all && eqb (e .position .0) end && continues (e .header)) refl (joining-unmarked (end + span (e .header)) (full (e .header)) es)
+  where
+    by-join : (b : Bool) → all && eqb (e .position .0) end && continues (e .header) ≡ b
+        → (let n = end + span (e .header) in joining n (full (e .header)) (unmarked es) ≡ unmarked (joining n (full (e .header)) es))
+        → joining end all (unmarked (e ∷ es)) ≡ unmarked (joining end all (e ∷ es))
+    by-join true j more =
+        joining-one end all (entry (e .position .0) (e .header) false) (unmarked es) true j
+        ∙ ap (λ (l : List Entry). entry (e .position .0) (e .header) false ∷ l) more
+        ∙ ap unmarked (sym (joining-one end all e es true j))
+    by-join false j more =
+        joining-one end all (entry (e .position .0) (e .header) false) (unmarked es) false j ∙ ap unmarked (sym (joining-one end all e es false j))
+
+frame-unmarked : (es : List Entry) → frameOf (unmarked es) ≡ unmarked (frameOf es)
+unfolding frameOf
+frame-unmarked [] = refl
+frame-unmarked (e ∷ es) =
+    ap (λ (l : List Entry). entry (e .position .0) (e .header) false ∷ l) (joining-unmarked (span (e .header)) (full (e .header)) es)
+
+-- nor do the units
+units-unmarked : (ws : List ℕ) (es : List Entry) → unitsOf ws (unmarked es) ≡ unitsOf ws es
+unfolding unitsOf
+units-unmarked ws [] = refl
+units-unmarked ws (e ∷ es) = ap (λ (us : List (List ℕ)). chunkUnits ws e ++ us) (units-unmarked ws es)
 
 module _ (sync : ℕ) (ws : List ℕ) (s : startsFrame sync ws ≡ true) where
   abbrev fs : List Entry
@@ -184,16 +216,19 @@ module _ (sync : ℕ) (ws : List ℕ) (s : startsFrame sync ws ≡ true) where
   unfolding frameChunks
   frame-header-at e h = listed-header-at sync ws e (frame-among (reading sync ws) e h)
 
-  same-chunks : frameChunks sync own ≡ fs
+  same-chunks : unmarked (frameChunks sync own) ≡ unmarked fs
   unfolding frameChunks
   same-chunks =
-      ap (λ (v : List ℕ). frameOf (reading sync v)) (row-words sync ws 0 fs end-to-end frame-header-at)
-      ∙ ap frameOf (lists-row sync 0 (rowOf sync ws fs) (row-whole sync ws fs frame-header-at) ∙ row-entries sync ws 0 fs end-to-end)
-      ∙ frame-again (reading sync ws)
+      let row : List Entry = entries 0 (rowOf sync ws fs) in
+      let list : reading sync own ≡ row =
+      ap (reading sync) (row-words sync ws 0 fs end-to-end frame-header-at) ∙ lists-row sync 0 (rowOf sync ws fs) (row-whole sync ws fs frame-header-at) in
+      ap (λ (es : List Entry). unmarked (frameOf es)) list
+      ∙ sym (frame-unmarked row) ∙ ap frameOf (row-entries sync ws 0 fs end-to-end) ∙ frame-unmarked fs
+      ∙ ap unmarked (frame-again (reading sync ws))
 
   same-units : frameUnits sync own ≡ frameUnits sync ws
   same-units =
-      ap (unitsOf own) same-chunks
+      sym (units-unmarked own (frameChunks sync own)) ∙ ap (unitsOf own) same-chunks ∙ units-unmarked own fs
       ∙ units-within (frameWords sync ws) ws (frame-ends-inside sync ws s) 0 fs end-to-end (omega arith)
 
   local : Local sync ws

@@ -12,7 +12,7 @@ use borrow.Author.Tests.{eq-eqb, ne-eqb, eqb-true, eqb-false}
 use Rattle.chunk.specs.declared.Entry.{Entry}
 use Rattle.chunk.specs.Header.{span}
 use Rattle.chunk.specs.Reading.{entry, listed, listedWords}
-use Rattle.chunk_laws.specs.Resync.{moved}
+use Rattle.chunk_laws.specs.Resync.{movedEntry, moved}
 use Rattle.chunk_laws.proofs.ByPlace.{listed-moved}
 use Rattle.frame.specs.declared.Description.{Description}
 use Rattle.frame.specs.declared.Piece.{Piece}
@@ -42,13 +42,13 @@ joining-moved n end all (e ∷ es) = by-join (all && eqb (e .position .0) end &&
         → ((a : Bool) → joining (n + (end + span (e .header))) a (moved n es) ≡ moved n (joining (end + span (e .header)) a es))
         → joining (n + end) all (moved n (e ∷ es)) ≡ moved n (joining end all (e ∷ es))
     by-join true j more =
-        let f : Entry = entry (n + e .position .0) (e .header) in
+        let f : Entry = movedEntry n e in
         joining-one (n + end) all f (moved n es) true (same true j)
         ∙ ap (λ (m : ℕ). f ∷ joining m (full (e .header)) (moved n es)) (add-assoc n end (span (e .header)))
         ∙ ap (λ (l : List Entry). f ∷ l) (more (full (e .header)))
         ∙ ap (moved n) (sym (joining-one end all e es true j))
     by-join false j more =
-        joining-one (n + end) all (entry (n + e .position .0) (e .header)) (moved n es) false (same false j)
+        joining-one (n + end) all (movedEntry n e) (moved n es) false (same false j)
         ∙ ap (moved n) (sym (joining-one end all e es false j))
 
 pub words-moved : (n : ℕ) (es : List Entry) → listedWords (moved n es) ≡ listedWords es
@@ -69,18 +69,18 @@ unfolding framesAndStrays
 pieces-moved n end all [] = refl
 pieces-moved n end all (e ∷ es) =
     let h : ℕ = e .header in
-    pieces-one (n + end) all (entry (n + e .position .0) h) (moved n es) (continues h) _ (starts h) refl (ap (λ (b : Bool). all && b) (shifted n (e .position .0) end)) refl
+    pieces-one (n + end) all (movedEntry n e) (moved n es) (continues h) _ (starts h) refl (ap (λ (b : Bool). all && b) (shifted n (e .position .0) end)) refl
     ∙ picks (continues h) (all && eqb (e .position .0) end) (starts h) (λ m a. pieces-moved n m a es)
     ∙ ap (moved n) (sym (pieces-one end all e es (continues h) _ (starts h) refl refl refl))
   where
     picks : (c j s : Bool) → ((m : ℕ) (a : Bool) → framesAndStrays (n + m) a (moved n es) ≡ moved n (framesAndStrays m a es))
-        → pick (n + end) all (entry (n + e .position .0) (e .header)) (moved n es) c j s ≡ moved n (pick end all e es c j s)
+        → pick (n + end) all (movedEntry n e) (moved n es) c j s ≡ moved n (pick end all e es c j s)
     picks true true s more =
         ap (λ (m : ℕ). framesAndStrays m (full (e .header)) (moved n es)) (add-assoc n end (span (e .header)))
         ∙ more (end + span (e .header)) (full (e .header))
-    picks true false s more = ap (λ (l : List Entry). entry (n + e .position .0) (e .header) ∷ l) (sym (none-held (n + 0) (moved n es)) ∙ more 0 false)
+    picks true false s more = ap (λ (l : List Entry). movedEntry n e ∷ l) (sym (none-held (n + 0) (moved n es)) ∙ more 0 false)
     picks false j true more =
-        ap (λ (l : List Entry). entry (n + e .position .0) (e .header) ∷ l)
+        ap (λ (l : List Entry). movedEntry n e ∷ l)
         (ap (λ (m : ℕ). framesAndStrays m (full (e .header)) (moved n es)) (add-assoc n (e .position .0) (span (e .header)))
         ∙ more (e .position .0 + span (e .header)) (full (e .header)))
     picks false j false more = sym (none-held (n + 0) (moved n es)) ∙ more 0 false
@@ -107,7 +107,7 @@ module _ (sync : ℕ) (a s : List ℕ) where
           → firstPiece sync (a ++ s) (moved (length a) (e ∷ es)) ≡ movedPiece (length a) (firstPiece sync s (e ∷ es))
       by-start true z = rw (z, firstPiece) (frame-moved (e .position .0))
       by-start false z =
-          rw (z, firstPiece) (ap (λ (n : ℕ). Piece.Stray (record { 0 = length a + e .position .0 }) (record { 0 = n }))
+          rw (z, firstPiece) (ap (λ (n : ℕ). Piece.Stray (movedEntry (length a) e) (record { 0 = n }))
           (add-assoc (length a) (e .position .0) (span (e .header))))
 
   pub pieces-from-moved : (p : ℕ) → piecesFrom sync (a ++ s) (length a + p) ≡ moved (length a) (piecesFrom sync s p)

@@ -1,6 +1,6 @@
 -- What the next piece says. The chunks that join a frame are no strays, and after them none is in hand; so where a frame ends the frames and strays go on as
 -- those of the reading that begins there.
-use mathlib.Core.Path.{_≡_, refl, sym, ap, subst, _∙_}
+use mathlib.Core.Path.{_≡_, refl, sym, ap, ap₂, subst, _∙_}
 use mathlib.Core.Bool.{Bool, true, false, _&&_, and-true}
 use mathlib.Core.List.{List, [], _∷_}
 use Prim.Native.Nat.{ℕ, zero, suc, _+_, _≤_}
@@ -14,8 +14,9 @@ use Rattle.base.proofs.Booleans.{and-left, and-right}
 use Rattle.chunk.specs.declared.Entry.{Entry}
 use Rattle.chunk.specs.declared.Found.{Found}
 use Rattle.chunk.specs.declared.Found.the-variants.{Chunk, End}
-use Rattle.chunk.specs.Header.{size, kind, span}
+use Rattle.chunk.specs.Header.{size, kind, span, atEnd}
 use Rattle.chunk.specs.Reading.{entry, listed, nextFrom, listedWords}
+use Rattle.chunk.proofs.Headers.{at-end}
 use Rattle.chunk.proofs.Steps.{past, Next, stepped, found-end}
 use Rattle.chunk_laws.specs.Resync.{moved}
 use Rattle.chunk_laws.proofs.ByPlace.{listed-moved}
@@ -91,15 +92,18 @@ module _ (sync : ℕ) (ws : List ℕ) where
     abbrev h : ℕ
     h = e .header
 
-    named : e ≡ entry at (getD ws (suc at) 0)
-    named = ap (entry at) (n .word)
+    word : h ≡ getD ws (at + 1) 0
+    word = n .word ∙ ap (λ (i : ℕ). getD ws i 0) (sym (add-one at))
+
+    named : e ≡ entry at (getD ws (suc at) 0) (atEnd (drop at ws))
+    named = ap₂ (entry at) (n .word) (n .mark ∙ sym (at-end sync ws at (past e) (omega (arith, n .ahead, n .within)) (omega (arith, ap size word))))
 
     at-stray : kind h ≡ 0 → starts h ≡ false → Says sync ws p (strayThere e)
     at-stray k s = record {
       none = λ z. absurd (omega arith);
       first = λ z. pieces-at-stray sync ws p e (past e) n k s ∙ ap (λ (f : Entry). f ∷ piecesFrom sync ws (past e)) named;
       isFrame = λ z. absurd (omega arith);
-      isStray = λ z. ap (λ (w : ℕ). continues w) (sym (n .word)) ∙ continuation h k s;
+      isStray = λ z. (ap (λ (w : ℕ). continues w) (sym (n .word)) ∙ continuation h k s, named);
     }
 
     -- after a frame's chunks none is in hand
@@ -122,9 +126,9 @@ module _ (sync : ℕ) (ws : List ℕ) where
       isStray = λ z. absurd (omega arith);
     }
 
-  at-end : (p : ℕ) → nextFrom sync ws p ≡ Found.End → Says sync ws p (nextPiece sync ws p)
+  at-last : (p : ℕ) → nextFrom sync ws p ≡ Found.End → Says sync ws p (nextPiece sync ws p)
   unfolding framesAndStrays
-  at-end p f = subst (Says sync ws p) (sym (no-piece sync ws p f)) record {
+  at-last p f = subst (Says sync ws p) (sym (no-piece sync ws p f)) record {
     none = λ z. none-left sync ws p f;
     first = λ z. absurd (z refl);
     isFrame = λ z. absurd (omega arith);
@@ -147,13 +151,13 @@ module _ (sync : ℕ) (ws : List ℕ) where
 
   by-found : (k p : ℕ) → length ws ≤ p + suc k → ((q : ℕ) → length ws ≤ q + k → Says sync ws q (nextPiece sync ws q))
       → (f : Found) → nextFrom sync ws p ≡ f → Says sync ws p (nextPiece sync ws p)
-  by-found k p h more End f = at-end p f
+  by-found k p h more End f = at-last p f
   by-found k p h more (Chunk e next) f =
       let s = stepped sync ws p e next f in
       at-chunk p e (subst (Next sync ws p e) (s .end) s) (more (past e) (omega (arith, s .ahead)))
 
   says-within : (k p : ℕ) → length ws ≤ p + k → Says sync ws p (nextPiece sync ws p)
-  says-within zero p h = at-end p (found-end sync ws p (omega arith))
+  says-within zero p h = at-last p (found-end sync ws p (omega arith))
   says-within (suc k) p h = by-found k p h (λ q. says-within k q) (nextFrom sync ws p) refl
 
 pub pieces-said : PiecesSaid

@@ -15,7 +15,7 @@ use Rattle.base.specs.Limit.{recordingLimit, tooLong}
 use Rattle.base.proofs.Booleans.{and-left, and-right}
 use Rattle.chunk.specs.declared.Entry.{Entry}
 use Rattle.chunk.specs.Header.{span, confirmed}
-use Rattle.chunk.specs.Reading.{entry, listed, reading, leftAt, listedAt}
+use Rattle.chunk.specs.Reading.{listed, reading, leftAt, listedAt}
 use Rattle.chunk_laws.specs.Stretch.{Laid, words, offset, clean}
 use Rattle.chunk_laws.specs.Resync.{from, moved}
 use Rattle.chunk_laws.proofs.ByPlace.{listed-place, reading-from}
@@ -23,7 +23,7 @@ use Rattle.chunk_laws.proofs.Stretch.{unbroken, clean-unbroken}
 use Rattle.chunk_laws.proofs.Resync.{listed-same, listed-late}
 use Rattle.frame.specs.Shape.{starts, continues, full}
 use Rattle.frame.specs.Pieces.{framesAndStrays, piecesOf, piecesFrom}
-use Rattle.frame.proofs.Joining.{next-here, listedFrom}
+use Rattle.frame.proofs.Joining.{next-here, listedFrom, entryAt}
 use Rattle.frame.proofs.Stepping.{pick, pieces-one, no-continuation}
 use Rattle.frame_reading.specs.Replies.{atReply, judgeReply, readReply, readRoom}
 use Rattle.frame_laws.specs.Resync.{SameFrame, FramesAsAlone, StepsAsAlone}
@@ -92,9 +92,9 @@ pieces-from-frame sync ws p l s =
     let z : leftAt sync 0 ws p ≡ 0 = eqb-true (leftAt sync 0 ws p) 0 (and-left (eqb (leftAt sync 0 ws p) 0) _ l) in
     let h : ℕ = getD ws (suc p) 0 in
     let w : getD (drop p ws) 1 0 ≡ h = getD-drop p ws 1 0 ∙ ap (λ (i : ℕ). getD ws i 0) (add-one p) in
-    let g : listed sync p 0 (drop p ws) ≡ entry p h ∷ listedFrom sync ws (p + span h) =
+    let g : listed sync p 0 (drop p ws) ≡ entryAt ws p h ∷ listedFrom sync ws (p + span h) =
     next-here sync ws p (and-right (eqb (leftAt sync 0 ws p) 0) (confirmed sync (drop p ws)) l) .lists in
-    from-frame p 0 false (reading sync ws) (entry p h) _ (reading-from sync p ws ∙ ap (λ (n : ℕ). listed sync p n (drop p ws)) z ∙ g)
+    from-frame p 0 false (reading sync ws) (entryAt ws p h) _ (reading-from sync p ws ∙ ap (λ (n : ℕ). listed sync p n (drop p ws)) z ∙ g)
     (ap (λ (x : ℕ). starts x) (sym w) ∙ s)
     ∙ ap (framesAndStrays 0 false) (sym g)
 
@@ -103,7 +103,7 @@ pieces-from-frame sync ws p l s =
 pub steps-as-alone : (sync : ℕ) (a : List ℕ) (cs : List Laid) → unbroken sync cs ≡ true → StepsAsAlone sync a cs
 steps-as-alone sync a cs k = record {
   next = next-moved sync a (words sync cs);
-  onward = λ before c after e h t.
+  onward = λ before c after e end h t.
       let s : List ℕ = words sync cs in
       let q : ℕ = offset sync before in
       let there = listed-place sync (a ++ s) _ h in
@@ -120,7 +120,7 @@ clean-steps-as-alone sync a cs k = steps-as-alone sync a cs (clean-unbroken sync
 
 module _ (sync : ℕ) (a : List ℕ) (cs : List Laid) (short : length (a ++ words sync cs) ≤ recordingLimit) where
   pub frames-as-alone : unbroken sync cs ≡ true → FramesAsAlone sync a cs
-  frames-as-alone k before c after e h =
+  frames-as-alone k before c after e end h =
       let s : List ℕ = words sync cs in
       let q : ℕ = offset sync before in
       let there : listedAt sync (a ++ s) (length a + q) ≡ true = listed-place sync (a ++ s) _ h .0 in

@@ -16,13 +16,14 @@ use Rattle.base_room.specs.Room.{put}
 use Rattle.base.specs.Limit.{recordingLimit, tooLong}
 use Rattle.base.proofs.Refused.{answer-yes}
 use Rattle.chunk.specs.declared.Entry.{Entry}
-use Rattle.chunk.specs.Header.{size, kind, span, legalSize, confirmed}
+use Rattle.chunk.specs.Header.{size, kind, span, legalSize, confirmed, chunkCheck, checkAt, isChunk}
 use Rattle.chunk.specs.Reading.{entry, listedWords, listedAt}
+use Rattle.chunk.proofs.Headers.{chunk-told, at-end-told}
 use Rattle.chunk_writing.specs.Writing as writes
 use Rattle.chunk_writing.specs.Writing.{headerWord}
-use Rattle.chunk_laws.specs.Stretch.{Laid, words, offset, whole, wholeRow}
+use Rattle.chunk_laws.specs.Stretch.{Laid, words, offset, empty, whole, wholeRow}
 use Rattle.chunk_laws.specs.Written.{WriterCall, reply, Accepted}
-use Rattle.chunk_laws.proofs.Rows.{entries, whole-length, row-first, row-rest, row-confirmed, row-drop, lists-row, words-parts, row-at, row-listed, payload-there}
+use Rattle.chunk_laws.proofs.Rows.{entries, whole-length, row-first, row-rest, row-mark, row-confirmed, row-drop, lists-row, words-parts, row-at, row-listed, payload-there}
 use Rattle.chunk_laws.proofs.Written.{accepted, laidOut, kind-written, camera-written, size-written, written-whole, laid, accepted-taken, recorded-words}
 use Rattle.parity_laws.specs.Units.{Hold}
 use Rattle.health.specs.Writing.{packetFrom}
@@ -30,13 +31,13 @@ use Rattle.health_laws.specs.Written as packet
 use Rattle.health_laws.proofs.RoundTrip.{accepted-parts, written-packet, left-is-sound}
 use Rattle.parity_units.specs.Split.{parts, unitsIn, anyDamaged, joinedData, dataWords}
 use Rattle.parity_units.proofs.Split.{joined-length}
-use Rattle.frame.specs.Shape.{starts, continues, full, joining, frameOf, frameChunks, frameWords, frameCamera, observes, complete}
+use Rattle.frame.specs.Shape.{starts, continues, full, joining, frameOf, frameChunks, frameWords, frameCamera, observes, closing, complete, frameEnd}
 use Rattle.frame.specs.Picture.{payloadOf, unitsOf, frameUnits}
 use Rattle.frame.specs.Described.{described}
 use Rattle.frame.specs.Walk.{startsFrame, closesFrame}
 use Rattle.frame_reading.specs.Replies.{frame, refused, told, noFrame, atCauses, judgeCauses, readCauses, atReply, judgeReply, readReply, readRoom}
 use Rattle.frame.proofs.Joining.{joining-one}
-use Rattle.frame.proofs.Walking.{complete-at-end}
+use Rattle.frame.proofs.Walking.{own-mark, closing-at-end}
 use Rattle.frame_laws.specs.Written.{joined, unitRow, unitRows, fullButLast, allUnits, Image, imageUnits, frameCalls, WrittenFrame, recordingOf, ComesBack, FramesComeBack, ObservationCloses}
 
 -- ---- a payload splits into its units
@@ -96,7 +97,16 @@ unfolding wholeRow
 row-append [] ds k l = l
 row-append (c ∷ cs) ds k l = and-both (whole c) _ (row-first c cs k) (row-append cs ds (row-rest c cs k) l)
 
-row-words : (sync at : ℕ) (cs : List Laid) → wholeRow cs ≡ true → listedWords (entries at cs) ≡ offset sync cs
+-- the entries of a row that another chunk follows: none of them has the mark
+abbrev followed : ℕ → List Laid → List Entry
+followed at [] = []
+followed at (c ∷ cs) = entry at (c .header) false ∷ followed (at + span (c .header)) cs
+
+not-last : (cs : List Laid) (d : Laid) (ds : List Laid) → empty (cs ++ d ∷ ds) ≡ false
+not-last [] d ds = refl
+not-last (c ∷ cs) d ds = refl
+
+row-words : (sync at : ℕ) (cs : List Laid) → wholeRow cs ≡ true → listedWords (followed at cs) ≡ offset sync cs
 unfolding listedWords
 row-words sync at [] k = refl
 row-words sync at (c ∷ cs) k =
@@ -104,7 +114,7 @@ row-words sync at (c ∷ cs) k =
     let m = row-words sync (at + span (c .header)) cs (row-rest c cs k) in
     omega (arith, length-append (c .payload) (words sync cs))
 
-entry-count : (at : ℕ) (cs : List Laid) → length (entries at cs) ≡ length cs
+entry-count : (at : ℕ) (cs : List Laid) → length (followed at cs) ≡ length cs
 entry-count at [] = refl
 entry-count at (c ∷ cs) = ap suc (entry-count (at + span (c .header)) cs)
 
@@ -144,7 +154,7 @@ frame-whole cam (us ∷ uss) w =
 
 -- they hold its units
 frame-units : (sync at cam : ℕ) (v : List ℕ) (uss : List (List (List ℕ))) (rest : List Laid) → writable cam uss ≡ true
-    → drop at v ≡ words sync (frameRow cam uss ++ rest) → unitsOf v (entries at (frameRow cam uss)) ≡ allUnits uss
+    → drop at v ≡ words sync (frameRow cam uss ++ rest) → unitsOf v (followed at (frameRow cam uss)) ≡ allUnits uss
 unfolding unitsOf
 frame-units sync at cam v [] rest w e = refl
 frame-units sync at cam v (us ∷ uss) rest w e =
@@ -152,7 +162,7 @@ frame-units sync at cam v (us ∷ uss) rest w e =
     let h : ℕ = c .header in
     let k : whole c ≡ true = written-whole 0 cam (joined us) (taken cam us uss w) in
     let n : size h ≡ length (joined us) = sym (whole-length c k) in
-    let p : payloadOf v (entry at h) ≡ joined us =
+    let p : payloadOf v (entry at h false) ≡ joined us =
     ap (take (size h)) (sym (drop-drop 2 at v) ∙ ap (drop 2) e) ∙ payload-there sync c (frameRow 0 uss ++ rest) k in
     let o : drop (at + span h) v ≡ words sync (frameRow 0 uss ++ rest) =
     sym (drop-drop (span h) at v) ∙ ap (drop (span h)) e ∙ row-drop sync c (frameRow 0 uss ++ rest) k in
@@ -163,11 +173,11 @@ frame-units sync at cam v (us ∷ uss) rest w e =
 -- of the chunks after the first, the frame's own join, and no other, as the next is health
 joins-own : (health : Laid) (after : List Laid) → kind (health .header) ≡ 1 → (cam : ℕ) (us : List (List ℕ)) (uss : List (List (List ℕ)))
     → writable cam (us ∷ uss) ≡ true → fullButLast (us ∷ uss) ≡ true → (end : ℕ)
-    → joining end (full (headerWord 0 cam (length (joined us)))) (entries end (frameRow 0 uss ++ health ∷ after)) ≡ entries end (frameRow 0 uss)
+    → joining end (full (headerWord 0 cam (length (joined us)))) (entries end (frameRow 0 uss ++ health ∷ after)) ≡ followed end (frameRow 0 uss)
 unfolding fullButLast
 joins-own health after k cam us [] w f end =
     let all : Bool = full (headerWord 0 cam (length (joined us))) in
-    joining-one end all (entry end (health .header)) (entries (end + span (health .header)) after) false
+    joining-one end all (entry end (health .header) (empty after)) (entries (end + span (health .header)) after) false
     (rw (ne-eqb (kind (health .header)) 0 (λ z. omega arith)) (and-false (all && eqb end end)))
 joins-own health after k cam us (vs ∷ uss) w f end =
     let h : ℕ = headerWord 0 0 (length (joined vs)) in
@@ -175,9 +185,10 @@ joins-own health after k cam us (vs ∷ uss) w f end =
     let all : full (headerWord 0 cam (length (joined us))) ≡ true =
     rw (size-written 0 cam (joined us) (taken cam us (vs ∷ uss) w)) (and-left (eqb (length (joined us) % 264) 0) _ f) in
     let c : continues h ≡ true = rw (kind-written 0 0 (joined vs) t, camera-written 0 0 (joined vs) t) in
-    joining-one end (full (headerWord 0 cam (length (joined us)))) (entry end h) (entries (end + span h) (frameRow 0 uss ++ health ∷ after)) true
+    joining-one end (full (headerWord 0 cam (length (joined us)))) (entry end h (empty (frameRow 0 uss ++ health ∷ after)))
+    (entries (end + span h) (frameRow 0 uss ++ health ∷ after)) true
     (rw (all, eq-eqb end end refl, c))
-    ∙ ap (λ (es : List Entry). entry end h ∷ es)
+    ∙ ap₂ (λ (m : Bool) (es : List Entry). entry end h m ∷ es) (not-last (frameRow 0 uss) health after)
     (joins-own health after k 0 vs uss (others cam us (vs ∷ uss) w) (and-right (eqb (length (joined us) % 264) 0) _ f) (end + span h))
 
 -- ---- they are what accepted calls of the chunk writer left
@@ -232,8 +243,8 @@ module _ (sync cam : ℕ) (i : Image) (is : List Image) (health : WriterCall) (a
   abbrev uss : List (List (List ℕ))
   uss = imageUnits is
 
-  abbrev closing : Laid
-  closing = laid health
+  abbrev health-chunk : Laid
+  health-chunk = laid health
 
   image-taken : writable cam (us ∷ uss) ≡ true
   image-taken = rows-taken cam (i ∷ is) health (w .units) (w .accepted) .0
@@ -241,7 +252,7 @@ module _ (sync cam : ℕ) (i : Image) (is : List Image) (health : WriterCall) (a
   closing-taken : accepted (health .kind) (health .camera) (health .payload) ≡ true
   closing-taken = accepted-taken health (rows-taken cam (i ∷ is) health (w .units) (w .accepted) .1)
 
-  closing-health : kind (closing .header) ≡ 1
+  closing-health : kind (health-chunk .header) ≡ 1
   closing-health = kind-written (health .kind) (health .camera) (health .payload) closing-taken ∙ w .closing
 
   abbrev row : List Laid
@@ -252,17 +263,17 @@ module _ (sync cam : ℕ) (i : Image) (is : List Image) (health : WriterCall) (a
 
   -- the words from the frame on
   abbrev here : List ℕ
-  here = words sync (row ++ closing ∷ after)
+  here = words sync (row ++ health-chunk ∷ after)
 
   row-whole : wholeRow row ≡ true
   row-whole = frame-whole cam (us ∷ uss) image-taken
 
-  rest-whole : wholeRow (closing ∷ after) ≡ true
+  rest-whole : wholeRow (health-chunk ∷ after) ≡ true
   unfolding wholeRow
-  rest-whole = and-both (whole closing) _ (written-whole (health .kind) (health .camera) (health .payload) closing-taken) k
+  rest-whole = and-both (whole health-chunk) _ (written-whole (health .kind) (health .camera) (health .payload) closing-taken) k
 
-  here-whole : wholeRow (row ++ closing ∷ after) ≡ true
-  here-whole = row-append row (closing ∷ after) row-whole rest-whole
+  here-whole : wholeRow (row ++ health-chunk ∷ after) ≡ true
+  here-whole = row-append row (health-chunk ∷ after) row-whole rest-whole
 
   first-taken : accepted 0 cam (joined us) ≡ true
   first-taken = taken cam us uss image-taken
@@ -272,32 +283,51 @@ module _ (sync cam : ℕ) (i : Image) (is : List Image) (health : WriterCall) (a
 
   frame-starts : startsFrame sync here ≡ true
   frame-starts =
-      and-both (confirmed sync here) _ (row-confirmed sync (laidOut 0 cam (joined us)) (frameRow 0 uss ++ closing ∷ after) here-whole) first-starts
+      and-both (confirmed sync here) _ (row-confirmed sync (laidOut 0 cam (joined us)) (frameRow 0 uss ++ health-chunk ∷ after) here-whole) first-starts
 
-  own-chunks : frameChunks sync here ≡ entries 0 row
+  own-chunks : frameChunks sync here ≡ followed 0 row
   unfolding frameChunks frameOf
   own-chunks =
       let n : 0 + span first ≡ span first = zero-add (span first) in
-      ap frameOf (lists-row sync 0 (row ++ closing ∷ after) here-whole)
-      ∙ ap (λ (e : ℕ). entry 0 first ∷ joining e (full first) (entries (0 + span first) (frameRow 0 uss ++ closing ∷ after))) (sym n)
-      ∙ ap (λ (es : List Entry). entry 0 first ∷ es)
-      (joins-own closing after closing-health cam us uss image-taken (w .full) (0 + span first))
+      ap frameOf (lists-row sync 0 (row ++ health-chunk ∷ after) here-whole)
+      ∙ ap₂ (λ (m : Bool) (e : ℕ). entry 0 first m ∷ joining e (full first) (entries (0 + span first) (frameRow 0 uss ++ health-chunk ∷ after)))
+      (not-last (frameRow 0 uss) health-chunk after) (sym n)
+      ∙ ap (λ (es : List Entry). entry 0 first false ∷ es)
+      (joins-own health-chunk after closing-health cam us uss image-taken (w .full) (0 + span first))
 
   own-units : frameUnits sync here ≡ allUnits (us ∷ uss)
-  own-units = ap (unitsOf here) own-chunks ∙ frame-units sync 0 cam here (us ∷ uss) (closing ∷ after) image-taken refl
+  own-units = ap (unitsOf here) own-chunks ∙ frame-units sync 0 cam here (us ∷ uss) (health-chunk ∷ after) image-taken refl
 
-  own-complete : complete sync here ≡ true
-  own-complete =
-      let c : ℕ = closing .header in
-      let e : drop (frameWords sync here) here ≡ words sync (closing ∷ after) =
-      ap (λ (n : ℕ). drop n here) (ap listedWords own-chunks ∙ row-words sync 0 row row-whole) ∙ row-at sync row (closing ∷ after) refl in
+  own-words : frameWords sync here ≡ offset sync row
+  own-words = ap listedWords own-chunks ∙ row-words sync 0 row row-whole
+
+  -- the health chunk closes it
+  own-closing : closing sync here ≡ chunkCheck (empty after)
+  unfolding checkAt
+  own-closing =
+      let e : drop (frameWords sync here) here ≡ words sync (health-chunk ∷ after) =
+      ap (λ (n : ℕ). drop n here) own-words ∙ row-at sync row (health-chunk ∷ after) refl in
       let f : frameCamera here ≡ cam = camera-written 0 cam (joined us) first-taken in
-      complete-at-end sync here frame-starts ∙ ap₂ (closesFrame sync) e f
+      closing-at-end sync here frame-starts ∙ ap₂ (closesFrame sync) e f
       ∙ rw (
-        row-confirmed sync closing after rest-whole,
         closing-health,
         observes-front cam (health .camera) (health .payload) (words sync after) (rw (w .closing) at closing-taken),
-      ) (w .observed)
+        w .observed,
+        row-confirmed sync health-chunk after rest-whole,
+        row-mark sync health-chunk after (row-first health-chunk after rest-whole),
+      )
+
+  own-complete : complete sync here ≡ true
+  unfolding complete
+  own-complete = ap isChunk own-closing ∙ chunk-told (empty after)
+
+  -- its own chunks end before the health chunk, so the mark is that chunk's
+  own-end : frameEnd sync here ≡ empty after
+  unfolding frameEnd
+  own-end =
+      let n : length here ≡ offset sync row + offset sync (health-chunk ∷ after) =
+      ap length (words-parts sync row (health-chunk ∷ after)) ∙ length-append (words sync row) (words sync (health-chunk ∷ after)) in
+      rw (own-mark sync here frame-starts ∙ ne-eqb (frameWords sync here) (length here) (λ z. omega (arith, own-words, n)), own-closing) (at-end-told (empty after))
 
   data-joined : joinedData (frameUnits sync here) ≡ joined ds
   data-joined = ap joinedData own-units ∙ held-data (allUnits (us ∷ uss)) ds (w .hold)
@@ -305,12 +335,12 @@ module _ (sync cam : ℕ) (i : Image) (is : List Image) (health : WriterCall) (a
   data-length : dataWords (frameUnits sync here) ≡ length (joined ds)
   data-length = sym (joined-length (frameUnits sync here)) ∙ ap length data-joined
 
-  own-described : told (described sync here) ≡ frame 0 cam (length (i ∷ is)) true (length (joined ds))
+  own-described : told (described sync here) ≡ frame 0 cam (length (i ∷ is)) true (length (joined ds)) (empty after)
   unfolding described
   own-described =
       let n : length (frameChunks sync here) ≡ length (i ∷ is) =
       ap length own-chunks ∙ entry-count 0 row ∙ chunk-count cam (i ∷ is) in
-      rw (camera-written 0 cam (joined us) first-taken, n, own-complete, data-length)
+      rw (camera-written 0 cam (joined us) first-taken, n, own-complete, data-length, own-end)
 
   module _ (before : List Laid) (j : wholeRow before ≡ true) (s : length (recordingOf sync cam before (i ∷ is) health after) ≤ recordingLimit) where
     abbrev all : List ℕ
@@ -319,20 +349,20 @@ module _ (sync cam : ℕ) (i : Image) (is : List Image) (health : WriterCall) (a
     abbrev place : ℕ
     place = offset sync before
 
-    all-words : all ≡ words sync (before ++ (row ++ closing ∷ after))
+    all-words : all ≡ words sync (before ++ (row ++ health-chunk ∷ after))
     all-words = recording-words sync cam before (i ∷ is) health after (w .accepted)
 
     there : drop place all ≡ here
-    there = ap (drop place) all-words ∙ row-at sync before (row ++ closing ∷ after) refl
+    there = ap (drop place) all-words ∙ row-at sync before (row ++ health-chunk ∷ after) refl
 
     short : tooLong all ≡ false
     short = le-ltb recordingLimit (length all) s
 
     listed-there : noFrame sync all place ≡ false
     listed-there =
-        let r : wholeRow (before ++ (row ++ closing ∷ after)) ≡ true = row-append before (row ++ closing ∷ after) j here-whole in
+        let r : wholeRow (before ++ (row ++ health-chunk ∷ after)) ≡ true = row-append before (row ++ health-chunk ∷ after) j here-whole in
         let l : listedAt sync all place ≡ true =
-        ap (λ (v : List ℕ). listedAt sync v place) all-words ∙ row-listed sync before (laidOut 0 cam (joined us)) (frameRow 0 uss ++ closing ∷ after) r in
+        ap (λ (v : List ℕ). listedAt sync v place) all-words ∙ row-listed sync before (laidOut 0 cam (joined us)) (frameRow 0 uss ++ health-chunk ∷ after) r in
         rw (l, there, first-starts)
 
     whole-there : complete sync (drop place all) ≡ true
@@ -342,7 +372,7 @@ module _ (sync cam : ℕ) (i : Image) (is : List Image) (health : WriterCall) (a
     sound-there =
         ap (λ (v : List ℕ). anyDamaged (frameUnits sync v)) there ∙ ap anyDamaged own-units ∙ held-sound (allUnits (us ∷ uss)) ds (w .hold)
 
-    described-there : told (described sync (drop place all)) ≡ frame 0 cam (length (i ∷ is)) true (length (joined ds))
+    described-there : told (described sync (drop place all)) ≡ frame 0 cam (length (i ∷ is)) true (length (joined ds)) (empty after)
     described-there = ap (λ (v : List ℕ). told (described sync v)) there ∙ own-described
 
     -- nothing is refused, in a room that is large enough
@@ -352,7 +382,7 @@ module _ (sync cam : ℕ) (i : Image) (is : List Image) (health : WriterCall) (a
         le-ltb m _ (rw (ap (λ (v : List ℕ). dataWords (frameUnits sync v)) there ∙ data-length) l) in
         rw (short, listed-there, whole-there, sound-there, f)
 
-    frame-back : ComesBack sync cam place (length (i ∷ is)) all ds
+    frame-back : ComesBack sync cam place (length (i ∷ is)) (empty after) all ds
     unfolding atReply judgeReply readReply readRoom
     frame-back = record {
       described = answer-yes (verdict (atCauses sync all place)) refused _ (rw (short, listed-there)) ∙ described-there;

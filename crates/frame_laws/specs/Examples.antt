@@ -5,6 +5,7 @@ use mathlib.Core.Bool.{true, false}
 use mathlib.Core.List.{List, [], _∷_, _++_}
 use lib.ListN.{replicate}
 use Rattle.base.specs.Refusal.{nothingThere, frameCut}
+use Rattle.chunk.specs.Reading.{entry}
 use Rattle.chunk_laws.specs.Written.{WriterCall}
 use Rattle.health.specs.Writing.{packetFrom}
 use Rattle.frame.specs.declared.Piece.{Piece}
@@ -42,24 +43,27 @@ abbrev pub healthCall : WriterCall
 healthCall = record { kind = 1; camera = 0; payload = packet 4; room = replicate 35 0 }
 
 pub record Examples : Type 0 where
-  -- a packet of type 3 + 1 follows: the frame is complete, and its data go to the room
-  pub complete : (atReply sync (image 0x8000 ++ health 4) 0 ≡ frame 0 1 1 true 1)
-      × (readReply sync (image 0x8000 ++ health 4) 0 2 ≡ frame 0 1 1 true 1)
+  -- a packet of type 3 + 1 follows: the frame is complete, and its data go to the room; the health chunk that completes it ends with the recording
+  pub complete : (atReply sync (image 0x8000 ++ health 4) 0 ≡ frame 0 1 1 true 1 true)
+      × (readReply sync (image 0x8000 ++ health 4) 0 2 ≡ frame 0 1 1 true 1 true)
       × (readRoom sync (image 0x8000 ++ health 4) 0 (0xFFFF ∷ 0xFFFF ∷ []) ≡ 0x8000 ∷ 0xFFFF ∷ [])
   -- one bit of it was hit: the same answer and the same data
-  pub repaired : (readReply sync (image 0 ++ health 4) 0 2 ≡ frame 0 1 1 true 1)
+  pub repaired : (readReply sync (image 0 ++ health 4) 0 2 ≡ frame 0 1 1 true 1 true)
       × (readRoom sync (image 0 ++ health 4) 0 (0xFFFF ∷ 0xFFFF ∷ []) ≡ 0x8000 ∷ 0xFFFF ∷ [])
   -- another camera's packet follows: it is cut, and its data are refused
-  pub cut : (atReply sync (image 0x8000 ++ health 5) 0 ≡ frame 0 1 1 false 1) × (judgeReply sync (image 0x8000 ++ health 5) 0 ≡ refused frameCut)
+  pub cut : (atReply sync (image 0x8000 ++ health 5) 0 ≡ frame 0 1 1 false 1 false) × (judgeReply sync (image 0x8000 ++ health 5) 0 ≡ refused frameCut)
+  -- where a chunk follows the health chunk the frame has no mark; where the frame's own chunk is the last, it is cut and has it
+  pub followed : atReply sync (image 0x8000 ++ health 4 ++ continuation 0x8000) 0 ≡ frame 0 1 1 true 1 false
+  pub last : atReply sync (image 0x8000) 0 ≡ frame 0 1 1 false 1 true
   -- a continuation that joins no frame is stray, and no frame stands there
-  pub stray : (nextPiece sync (continuation 0x8000) 0 ≡ Piece.Stray (record { 0 = 0 }) (record { 0 = 11 }))
+  pub stray : (nextPiece sync (continuation 0x8000) 0 ≡ Piece.Stray (entry 0 0x0009 true) (record { 0 = 11 }))
       × (atReply sync (continuation 0x8000) 0 ≡ refused nothingThere)
   -- a continuation after a chunk that is no multiple of 264 joins nothing: the frame comes first, then the stray, and no more; from a place inside the
   -- frame the stray comes first
-  pub stepped : (nextPiece sync (image 0x8000 ++ continuation 0x8000) 0 ≡ Piece.Frame (record { 0 = 0 }) (description 1 1 false 1) (record { 0 = 11 }))
-      × (nextPiece sync (image 0x8000 ++ continuation 0x8000) 11 ≡ Piece.Stray (record { 0 = 11 }) (record { 0 = 22 }))
+  pub stepped : (nextPiece sync (image 0x8000 ++ continuation 0x8000) 0 ≡ Piece.Frame (record { 0 = 0 }) (description 1 1 false 1 false) (record { 0 = 11 }))
+      × (nextPiece sync (image 0x8000 ++ continuation 0x8000) 11 ≡ Piece.Stray (entry 11 0x0009 true) (record { 0 = 22 }))
       × (nextPiece sync (image 0x8000 ++ continuation 0x8000) 22 ≡ Piece.End)
-      × (nextPiece sync (image 0x8000 ++ continuation 0x8000) 1 ≡ Piece.Stray (record { 0 = 11 }) (record { 0 = 22 }))
+      × (nextPiece sync (image 0x8000 ++ continuation 0x8000) 1 ≡ Piece.Stray (entry 11 0x0009 true) (record { 0 = 22 }))
   -- the complete frame is a written one, and so is the one with the bit that was hit
   pub written : WrittenFrame 1 (imageOf 0x8000 ∷ []) healthCall ((0x8000 ∷ []) ∷ [])
   pub hurt : WrittenFrame 1 (imageOf 0 ∷ []) healthCall ((0x8000 ∷ []) ∷ [])

@@ -3,11 +3,11 @@
 use Prim.Native.Nat.{ℕ, suc, _+_}
 use mathlib.Core.Path.{_≡_}
 use mathlib.Core.Bool.{true, false}
-use mathlib.Core.List.{List, [], _∷_, _++_}
+use mathlib.Core.List.{List, [], _∷_, _++_, map}
 use lib.ListN.{take, drop}
 use Rattle.chunk.specs.declared.Entry.{Entry}
 use Rattle.chunk.specs.Header.{span, confirmed}
-use Rattle.chunk.specs.Reading.{reading, listedWords}
+use Rattle.chunk.specs.Reading.{entry, reading, listedWords}
 use Rattle.chunk_laws.specs.Outside.{covered}
 use Rattle.frame.specs.Shape.{continues, frameChunks, frameWords}
 use Rattle.frame.specs.Picture.{frameUnits}
@@ -19,6 +19,10 @@ abbrev pub EndToEnd : ℕ → List Entry → Type 0
 EndToEnd at [] = Unit {0}
 EndToEnd at (e ∷ es) = (e .position .0 ≡ at) × EndToEnd (at + span (e .header)) es
 
+-- chunks by their positions and header words alone
+abbrev pub unmarked : List Entry → List Entry
+unmarked es = map (λ (e : Entry). entry (e .position .0) (e .header) false) es
+
 -- What holds of the frame at the front of these words.
 pub record Local (sync : ℕ) (ws : List ℕ) : Type 0 where
   -- its chunks stand end to end: no skipped word lies inside it
@@ -26,8 +30,8 @@ pub record Local (sync : ℕ) (ws : List ℕ) : Type 0 where
   -- where no chunk is confirmed at the end of its first chunks, it has no others: what comes after a skipped word joins nothing
   pub stops : (n : ℕ) → confirmed sync (drop (listedWords (take (suc n) (frameChunks sync ws))) ws) ≡ false
       → take (suc n) (frameChunks sync ws) ≡ frameChunks sync ws
-  -- its own words alone have the same chunks and the same units, and so the same data
-  pub sameChunks : frameChunks sync (take (frameWords sync ws) ws) ≡ frameChunks sync ws
+  -- its own words alone have the same chunks and the same units, and so the same data; but of these words the last chunk is the end, so it has the mark
+  pub sameChunks : unmarked (frameChunks sync (take (frameWords sync ws) ws)) ≡ unmarked (frameChunks sync ws)
   pub sameUnits : frameUnits sync (take (frameWords sync ws) ws) ≡ frameUnits sync ws
 
 -- every frame of a recording: of each listed chunk that starts one

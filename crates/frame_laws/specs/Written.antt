@@ -8,7 +8,7 @@ use lib.Dec.{leb, eqb}
 use Rattle.base_room.specs.Room.{put}
 use Rattle.base.specs.Limit.{recordingLimit}
 use Rattle.base.specs.Size.{parityWidth, unitWidth}
-use Rattle.chunk_laws.specs.Stretch.{Laid, words, offset, wholeRow}
+use Rattle.chunk_laws.specs.Stretch.{Laid, words, offset, empty, wholeRow}
 use Rattle.chunk_laws.specs.Written.{WriterCall, Accepted, recorded}
 use Rattle.parity_laws.specs.Units.{Hold}
 use Rattle.health_laws.specs.Written as packet
@@ -76,20 +76,21 @@ recordingOf sync cam before images health after = words sync before ++ (recorded
 
 -- ---- what comes back
 
--- The frame of n chunks at the place p comes back: it is complete, and its data, in a room that has as many words at the least, are `ds` joined.
-pub record ComesBack (sync cam p n : ℕ) (ws : List ℕ) (ds : List (List ℕ)) : Type 0 where
-  pub described : atReply sync ws p ≡ frame 0 cam n true (length (joined ds))
-  pub judges : judgeReply sync ws p ≡ frame 0 cam n true (length (joined ds))
-  pub replies : (m : ℕ) → length (joined ds) ≤ m → readReply sync ws p m ≡ frame 0 cam n true (length (joined ds))
+-- The frame of n chunks at the place p comes back: it is complete, has the mark `end`, and its data, in a room that has as many words at the least, are
+-- `ds` joined.
+pub record ComesBack (sync cam p n : ℕ) (end : Bool) (ws : List ℕ) (ds : List (List ℕ)) : Type 0 where
+  pub described : atReply sync ws p ≡ frame 0 cam n true (length (joined ds)) end
+  pub judges : judgeReply sync ws p ≡ frame 0 cam n true (length (joined ds)) end
+  pub replies : (m : ℕ) → length (joined ds) ≤ m → readReply sync ws p m ≡ frame 0 cam n true (length (joined ds)) end
   pub gives : (room : List ℕ) → length (joined ds) ≤ length room → readRoom sync ws p room ≡ put (joined ds) 0 room
 
--- Every such frame comes back, in every recording of whole chunks that is not too long.
+-- Every such frame comes back, in every recording of whole chunks that is not too long; with the mark exactly where no chunk follows the health chunk.
 abbrev pub FramesComeBack : Type 0
 FramesComeBack =
     (sync cam : ℕ) (before : List Laid) (images : List Image) (health : WriterCall) (after : List Laid) (ds : List (List ℕ))
     → WrittenFrame cam images health ds → wholeRow before ≡ true → wholeRow after ≡ true
     → length (recordingOf sync cam before images health after) ≤ recordingLimit
-    → ComesBack sync cam (offset sync before) (length images) (recordingOf sync cam before images health after) ds
+    → ComesBack sync cam (offset sync before) (length images) (empty after) (recordingOf sync cam before images health after) ds
 
 -- The observation packet of a camera closes its frame: as the packet writer left it, with any time and words that it accepts, and whatever packets come after.
 abbrev pub ObservationCloses : Type 0

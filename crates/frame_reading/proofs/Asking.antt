@@ -15,8 +15,9 @@ use Rattle.base.specs.Limit.{tooLong}
 use Rattle.base_room.specs.Room.{put}
 use Rattle.base.proofs.Refused.{numbered, spared, answer-no, answer-yes, answer-number, verdict-kept, verdict-further}
 use Rattle.base.specs.declared.Words.{Words}
+use Rattle.chunk.specs.declared.Entry.{Entry}
 use Rattle.chunk.specs.Header.{confirmed}
-use Rattle.chunk.specs.Reading.{entry, leftAt, listedAt}
+use Rattle.chunk.specs.Reading.{leftAt, listedAt}
 use Rattle.chunk.proofs.Steps.{confirmed-bounds}
 use Rattle.parity_units.specs.Split.{anyDamaged, givenData, dataWords}
 use Rattle.frame.specs.declared.Description.{Description}
@@ -29,7 +30,7 @@ use Rattle.frame.specs.Walk.{startsFrame}
 use Rattle.frame_reading.specs.declared.Frame.{Frame}
 use Rattle.frame_reading.specs.Along.{wordsAlong, unitsAlong}
 use Rattle.frame_reading.specs.Replies.{refused, told, atCauses, atReply, judgeCauses, judgeReply, readCauses, readReply, readRoom}
-use Rattle.frame.proofs.Joining.{confirmed-inside, next-here}
+use Rattle.frame.proofs.Joining.{entryAt, confirmed-inside, next-here}
 use Rattle.frame.proofs.Walking.{longer-than-header}
 use Rattle.frame.proofs.Stepping.{frame-next}
 use Rattle.frame_reading.proofs.Rows.{frame-units, frame-within, frame-data}
@@ -40,7 +41,7 @@ use Rattle.frame_reading.proofs.Rows.{frame-units, frame-within, frame-
 first-piece : (sync : ℕ) (vs : List ℕ) → startsFrame sync vs ≡ true → nextPiece sync vs 0 ≡ frameThere sync vs 0
 first-piece sync vs s =
     let h : ℕ = getD vs 1 0 in
-    frame-next sync vs 0 (entry 0 h) _ (next-here sync vs 0 (and-left (confirmed sync vs) (starts h) s)) (and-right (confirmed sync vs) (starts h) s)
+    frame-next sync vs 0 (entryAt vs 0 h) _ (next-here sync vs 0 (and-left (confirmed sync vs) (starts h) s)) (and-right (confirmed sync vs) (starts h) s)
 
 module _ (sync p : ℕ) (ws : List ℕ) where
   listed-confirmed : listedAt sync ws p ≡ true → confirmed sync (drop p ws) ≡ true
@@ -93,7 +94,7 @@ module _ (sync p : ℕ) (ws : List ℕ) where
           let e : d ≡ described sync here = cc piece-here in
           ap told e ∙ sym (answer-yes (verdict (atCauses sync ws p)) refused (told (described sync here)) v)
 
-      pub no-stray : (a b : Words) → x ≡ Piece.Stray a b → ⊥
+      pub no-stray : (a : Entry) (b : Words) → x ≡ Piece.Stray a b → ⊥
       no-stray a b t = let z : _≡_ {A = ℕ} 0 1 = cc piece-here in omega arith
 
       pub no-end : x ≡ Piece.End → ⊥

@@ -10,25 +10,25 @@ use native.Mathlib.Numerals.{add-one}
 use lib.ListN.{length, getD, take, drop}
 use lib.Seq.{getD-drop, drop-drop}
 use lib.Dec.{eqb, leb}
-use mathlib.Core.Logic.{_⊎_, inl, inr, ⊎-elim}
+use mathlib.Core.Logic.{inl, inr, ⊎-elim}
 use borrow.Author.Tests.{eqb-true, leb-true}
 use Rattle.base.proofs.Booleans.{and-left, and-right, or-cases}
 use Rattle.chunk.specs.declared.Entry.{Entry}
 use Rattle.chunk.specs.Header.{size, camera, kind, span, imageSize, confirmed}
-use Rattle.chunk.specs.Reading.{entry, listedWords}
+use Rattle.chunk.specs.Reading.{listedWords}
 use Rattle.chunk.proofs.Steps.{confirmed-bounds, confirmed-end}
 use Rattle.parity_units.specs.Split.{unitsIn, anyDamaged, givenData}
 use Rattle.parity_units.proofs.Split.{Fair, fair-append, units-fair, given-all}
 use Rattle.frame.specs.Shape.{starts, continues, full, joining, frameChunks}
 use Rattle.frame.specs.Picture.{payloadOf, chunkUnits, unitsOf, frameUnits, frameData}
 use Rattle.frame.specs.Walk.{startsFrame}
-use Rattle.frame.proofs.Joining.{listedFrom, confirmed-inside, joining-step, joining-stop}
+use Rattle.frame.proofs.Joining.{listedFrom, entryAt, confirmed-inside, joining-step, joining-stop}
 use Rattle.frame.proofs.Chunks.{image-size, payload-length}
 use Rattle.frame.proofs.Walking.{first-and-ahead, frame-ends-inside}
 use Rattle.frame_reading.specs.Along.{wordsAlong, unitsAlong}
 
 pub record Placed (ws : List ℕ) (at : ℕ) (e : Entry) : Type 0 where
-  pub entry-here : e ≡ entry at (getD ws (suc at) 0)
+  pub entry-here : e ≡ entryAt ws at (getD ws (suc at) 0)
   pub within : at + span (e .header) ≤ length ws
   pub image : imageSize (size (e .header)) ≡ true
 
@@ -37,7 +37,7 @@ Row ws at [] = Unit {0}
 Row ws at (e ∷ es) = Placed ws at e × Row ws (at + span (e .header)) es
 
 module _ (sync : ℕ) (ws : List ℕ) where
-  placed : (at : ℕ) → confirmed sync (drop at ws) ≡ true → eqb (kind (getD ws (suc at) 0)) 0 ≡ true → Placed ws at (entry at (getD ws (suc at) 0))
+  placed : (at : ℕ) → confirmed sync (drop at ws) ≡ true → eqb (kind (getD ws (suc at) 0)) 0 ≡ true → Placed ws at (entryAt ws at (getD ws (suc at) 0))
   placed at c i =
       let d : getD (drop at ws) 1 0 ≡ getD ws (suc at) 0 = getD-drop at ws 1 0 ∙ ap (λ (n : ℕ). getD ws n 0) (add-one at) in
       record {
@@ -97,13 +97,13 @@ row-along ws at (e ∷ es) r =
     let w : ℕ = getD ws (suc at) 0 in
     let p : Placed ws at e = r .0 in
     let h : e .header ≡ w = ap (λ (x : Entry). x .header) (p .entry-here) in
+    let b : e .position .0 ≡ at = ap (λ (x : Entry). x .position .0) (p .entry-here) in
     let d : getD v 1 0 ≡ e .header = getD-drop at ws 1 0 ∙ ap (λ (n : ℕ). getD ws n 0) (add-one at) ∙ sym h in
     let f : drop (span (getD v 1 0)) v ≡ drop (at + span (e .header)) ws =
     ap (λ (n : ℕ). drop (span n) v) d ∙ drop-drop (span (e .header)) at ws in
     let y : take (size (getD v 1 0)) (drop 2 v) ≡ payloadOf ws e =
-    ap₂ (λ (n : ℕ) (x : List ℕ). take (size n) x) d (drop-drop 2 at ws) ∙ ap (λ (n : ℕ). take (size (e .header)) (drop (n + 2) ws)) (sym (ap (λ (x : Entry). x .position .0) (p .entry-here))) in
-    let l : length (payloadOf ws e) ≡ size (e .header) =
-    ap (λ (n : ℕ). length (payloadOf ws (entry n (e .header)))) (ap (λ (x : Entry). x .position .0) (p .entry-here)) ∙ payload-length ws at (e .header) (p .within) in
+    ap₂ (λ (n : ℕ) (x : List ℕ). take (size n) x) d (drop-drop 2 at ws) ∙ ap (λ (n : ℕ). take (size (e .header)) (drop (n + 2) ws)) (sym b) in
+    let l : length (payloadOf ws e) ≡ size (e .header) = payload-length ws e (omega (arith, b, p .within)) in
     let a : Along ws (at + span (e .header)) es = row-along ws (at + span (e .header)) es (r .1) in
     record {
       words = ap₂ (λ (m n : ℕ). m + n) (ap span d) (ap (wordsAlong (length es)) f ∙ a .words);

@@ -15,15 +15,15 @@ use Rattle.frame.specs.Picture.{frameUnits, frameLength, frameData}
 use Rattle.frame.specs.Described.{described}
 use Rattle.frame_reading.specs.declared.Frame.{Frame}
 
-abbrev pub frame : ℕ → ℕ → ℕ → Bool → ℕ → Frame
-frame v cam n all len = record { refusal = v; camera = cam; chunks = n; complete = all; length = record { 0 = len } }
+abbrev pub frame : ℕ → ℕ → ℕ → Bool → ℕ → Bool → Frame
+frame v cam n all len end = record { refusal = v; camera = cam; chunks = n; complete = all; length = record { 0 = len }; end = end }
 
 abbrev pub refused : ℕ → Frame
-refused v = frame v 0 0 false 0
+refused v = frame v 0 0 false 0 false
 
 -- what is said of a frame, as a reply that refuses nothing
 abbrev pub told : Description → Frame
-told d = frame 0 (d .camera) (d .chunks) (d .complete) (d .length .0)
+told d = frame 0 (d .camera) (d .chunks) (d .complete) (d .length .0) (d .end)
 
 -- no listed chunk that starts a frame stands at the place
 abbrev pub noFrame : ℕ → List ℕ → ℕ → Bool

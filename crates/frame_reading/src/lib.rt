@@ -13,13 +13,14 @@ ghost use lib.ListN.{length};
 ghost use Rattle.base.specs.Refusal.{verdict};
 ghost use Rattle.frame_reading.specs.Replies.{refused, told, atCauses, atReply, judgeReply, readReply, readRoom};
 
-// The reply of every call here: what is said of a frame; zeros where it is refused.
+// The reply of every call here: what is said of a frame; zeros and false where it is refused.
 pub struct Frame {
     pub refusal: u8,
     pub camera: u16,
     pub chunks: usize,
     pub complete: bool,
     pub length: Words,
+    pub end: bool,
 }
 
 fn refused(number: u8) -> Frame
@@ -31,6 +32,7 @@ fn refused(number: u8) -> Frame
         chunks: 0,
         complete: false,
         length: Words(0),
+        end: false,
     }
 }
 
@@ -45,6 +47,7 @@ fn told(said: Description) -> Frame
         chunks: said.chunks,
         complete: said.complete,
         length,
+        end: said.end,
     }
 }
 

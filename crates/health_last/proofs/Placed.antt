@@ -17,7 +17,7 @@ use Rattle.health.proofs.Sound.{sound-long}
 use Rattle.health_last.specs.declared.Place.{Place}
 use Rattle.health_last.specs.declared.Sought.{Sought}
 use Rattle.health_last.specs.declared.Sought.the-variants.{At}
-use Rattle.health_last.specs.Packets.{sciencePlaces, healthPlaces, soundOf, foundAt, lastWhere}
+use Rattle.health_last.specs.Packets.{sciencePlaces, scienceEnd, healthPlaces, soundOf, foundAt, lastWhere}
 use Rattle.health_last.specs.Last.{inScience, inHealth, refused, newer, timeAt, shown, newest, argumentCauses, lastCauses, lastPlaceReply, partAt, lastPacketReply}
 use Rattle.health_last.proofs.Later.{last-cases, nothing-in-none}
 use Rattle.health_last.proofs.Shown.{shown-accepted, shown-recordings, pick-science, pick-health}
@@ -50,21 +50,23 @@ found-within t ws places ea at e = sound-within t ws (at .0) (last-holds (soundO
 -- ---- the place that is chosen
 
 module _ (sync : ℕ) (science : List ℕ) (t : ℕ) (health : List ℕ) where
-  -- by the times of the packets at the places that were found
-  pub compared : {a b : Sought} → a ≡ inScience sync science t → b ≡ inHealth health t → {x y : ℕ} → x ≡ timeAt science a → y ≡ timeAt health b
-      → {n : ℕ} → n ≡ newer x y → {s : Place} → s ≡ shown a b n → s ≡ newest sync science health t
+  -- by the times of the packets at the places that were found, and with the mark of the science recording's
+  pub compared : {a b : Sought} → a ≡ inScience sync science t → {end : Bool} → end ≡ scienceEnd sync science (inScience sync science t) → b ≡ inHealth health t
+      → {x y : ℕ} → x ≡ timeAt science a → y ≡ timeAt health b → {n : ℕ} → n ≡ newer x y → {s : Place} → s ≡ shown a end b n → s ≡ newest sync science health t
   unfolding newest
-  compared {a} {b} ea eb ex ey en es =
-      es ∙ ap (shown a b) (en ∙ ap₂ newer ex ey) ∙ ap₂ (λ (x y : Sought). shown x y (newer (timeAt science x) (timeAt health y))) ea eb
+  compared {a} {b} ea {end} em eb ex ey en es =
+      es ∙ ap (shown a end b) (en ∙ ap₂ newer ex ey)
+      ∙ ap (λ (m : Bool). shown a m b (newer (timeAt science a) (timeAt health b))) (em ∙ ap (scienceEnd sync science) (sym ea))
+      ∙ ap₂ (λ (x y : Sought). shown x (scienceEnd sync science x) y (newer (timeAt science x) (timeAt health y))) ea eb
 
   pub newest-accepted : newest sync science health t .refusal ≡ 0
   unfolding newest
-  newest-accepted = shown-accepted (inScience sync science t) (inHealth health t) _
+  newest-accepted = shown-accepted (inScience sync science t) _ (inHealth health t) _
 
   -- it is in one of the two recordings, or in none
   pub newest-recording : (newest sync science health t .recording ≡ 0) ⊎ ((newest sync science health t .recording ≡ 1) ⊎ (newest sync science health t .recording ≡ 2))
   unfolding newest
-  newest-recording = shown-recordings (inScience sync science t) (inHealth health t) _
+  newest-recording = shown-recordings (inScience sync science t) _ (inHealth health t) _
 
 -- ---- the causes
 
@@ -116,13 +118,13 @@ module _ (sync : ℕ) (science : List ℕ) (t : ℕ) (health : List ℕ) {s : Pl
   unfolding newest
   of-science h =
       let k = as-shown (λ z. omega (arith, h, z)) in
-      pick-science (inScience sync science t) (inHealth health t) _ (sym (ap (λ (x : Place). x .recording) k) ∙ h) ∙ ap (λ (x : Place). At (x .at)) (sym k)
+      pick-science (inScience sync science t) _ (inHealth health t) _ (sym (ap (λ (x : Place). x .recording) k) ∙ h) ∙ ap (λ (x : Place). At (x .at)) (sym k)
 
   pub of-health : s .recording ≡ 2 → inHealth health t ≡ At (s .at)
   unfolding newest
   of-health h =
       let k = as-shown (λ z. omega (arith, h, z)) in
-      pick-health (inScience sync science t) (inHealth health t) _ (sym (ap (λ (x : Place). x .recording) k) ∙ h) ∙ ap (λ (x : Place). At (x .at)) (sym k)
+      pick-health (inScience sync science t) _ (inHealth health t) _ (sym (ap (λ (x : Place). x .recording) k) ∙ h) ∙ ap (λ (x : Place). At (x .at)) (sym k)
 
   pub science-within : s .recording ≡ 1 → s .at .0 + 32 ≤ length science
   science-within h = found-within t science (sciencePlaces sync science) refl (s .at) (of-science h)

@@ -1,6 +1,6 @@
 -- FORMAT, "Health packets": the newest packet of a type. Of the last sound packets of the two recordings the newer is shown.
 use Prim.Native.Nat.{ℕ, _+_, _-_, _%_}
-use mathlib.Core.Bool.{Bool, cond, not, _&&_, _||_}
+use mathlib.Core.Bool.{Bool, false, cond, not, _&&_, _||_}
 use mathlib.Core.List.{List, [], _∷_, _++_}
 use lib.ListN.{length}
 use lib.Dec.{leb, eqb}
@@ -11,7 +11,7 @@ use Rattle.health.specs.Packet.{packetAt, packetTime}
 use Rattle.health_last.specs.declared.Sought.{Sought}
 use Rattle.health_last.specs.declared.Sought.the-variants.{At, Nowhere}
 use Rattle.health_last.specs.declared.Place.{Place}
-use Rattle.health_last.specs.Packets.{sciencePlaces, healthPlaces, soundOf, lastWhere}
+use Rattle.health_last.specs.Packets.{sciencePlaces, scienceEnd, healthPlaces, soundOf, lastWhere}
 
 abbrev pub inScience : ℕ → List ℕ → ℕ → Sought
 inScience sync science t = lastWhere (soundOf science t) (sciencePlaces sync science)
@@ -19,12 +19,12 @@ inScience sync science t = lastWhere (soundOf science t) (sciencePlaces sync sci
 abbrev pub inHealth : List ℕ → ℕ → Sought
 inHealth health t = lastWhere (soundOf health t) (healthPlaces health)
 
-abbrev pub place : ℕ → ℕ → ℕ → Place
-place v recording at = record { refusal = v; recording = recording; at = record { 0 = at } }
+abbrev pub place : ℕ → ℕ → ℕ → Bool → Place
+place v recording at end = record { refusal = v; recording = recording; at = record { 0 = at }; end = end }
 
--- a refusal has zeros
+-- a refusal has zeros and no mark
 abbrev pub refused : ℕ → Place
-refused v = place v 0 0
+refused v = place v 0 0 false
 
 -- how far the time h lies after the time s, modulo 65,536
 abbrev pub ahead : ℕ → ℕ → ℕ
@@ -40,24 +40,24 @@ unfoldable pub timeAt : List ℕ → Sought → ℕ
 timeAt ws (At p) = packetTime (packetAt ws (p .0))
 timeAt ws Nowhere = 0
 
--- the place of what was found in a recording; no recording where nothing was
-unfoldable pub placeIn : ℕ → Sought → Place
-placeIn recording (At p) = place 0 recording (p .0)
-placeIn recording Nowhere = place 0 0 0
+-- the place of what was found in a recording, with its mark; no recording and no mark where nothing was
+unfoldable pub placeIn : ℕ → Sought → Bool → Place
+placeIn recording (At p) end = place 0 recording (p .0) end
+placeIn recording Nowhere end = place 0 0 0 false
 
 -- The rule for which packet is shown. Where both recordings have one it is that of recording n, the newer, and none where n is 0. Where one has none it is
--- the other's, whatever its time.
-unfoldable pub shown : Sought → Sought → ℕ → Place
-shown (At p) (At q) n = cond (eqb n 1) (placeIn 1 (At p)) (cond (eqb n 2) (placeIn 2 (At q)) (place 0 0 0))
-shown (At p) Nowhere n = placeIn 1 (At p)
-shown Nowhere s n = placeIn 2 s
+-- the other's, whatever its time. A packet of the science recording has the mark `end`, one of the health recording, which has no chunks, has none.
+unfoldable pub shown : Sought → Bool → Sought → ℕ → Place
+shown (At p) end (At q) n = cond (eqb n 1) (placeIn 1 (At p) end) (cond (eqb n 2) (placeIn 2 (At q) false) (place 0 0 0 false))
+shown (At p) end Nowhere n = placeIn 1 (At p) end
+shown Nowhere end s n = placeIn 2 s false
 
 -- what is shown: the last packet of each recording, by place, is found, and these two are compared
 unfoldable pub newest : ℕ → List ℕ → List ℕ → ℕ → Place
 newest sync science health t =
     let a = inScience sync science t in
     let b = inHealth health t in
-    shown a b (newer (timeAt science a) (timeAt health b))
+    shown a (scienceEnd sync science a) b (newer (timeAt science a) (timeAt health b))
 
 -- types 1 to 15 can be asked for
 abbrev pub askedType : ℕ → Bool
@@ -77,7 +77,7 @@ abbrev pub lastCauses : ℕ → List ℕ → List ℕ → ℕ → Causes
 lastCauses sync science health t =
     argumentCauses science health t ++ (nothingThere, eqb (newest sync science health t .recording) 0) ∷ []
 
--- which recording the packet is shown of, and its place there
+-- which recording the packet is shown of, its place there, and whether it stands in a chunk that ends with the science recording
 unfoldable pub lastPlaceReply : ℕ → List ℕ → List ℕ → ℕ → Place
 lastPlaceReply sync science health t =
     answer (verdict (lastCauses sync science health t)) refused (newest sync science health t)

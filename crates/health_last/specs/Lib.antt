@@ -1,3 +1,4 @@
 pub mod Packets
+pub mod Seek
 pub mod Last
 pub mod Examples

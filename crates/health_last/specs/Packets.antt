@@ -1,13 +1,13 @@
 -- FORMAT, "Health packets": where packets stand in the two recordings, and the last sound one of a type.
 use Prim.Native.Nat.{ℕ, zero, suc, _+_, _/_}
-use mathlib.Core.Bool.{Bool, cond, _&&_}
+use mathlib.Core.Bool.{Bool, false, cond, _&&_, _||_}
 use mathlib.Core.List.{List, [], _∷_, _++_}
 use lib.ListN.{length}
 use lib.Dec.{eqb}
 use Rattle.base.specs.Size.{packetWidth}
 use Rattle.chunk.specs.declared.Entry.{Entry}
 use Rattle.chunk.specs.Header.{headerWidth, kind, size}
-use Rattle.chunk.specs.Reading.{reading}
+use Rattle.chunk.specs.Reading.{reading, within}
 use Rattle.health.specs.Packet.{packetAt, packetType, soundPacket}
 use Rattle.health_last.specs.declared.Sought.{Sought}
 use Rattle.health_last.specs.declared.Sought.the-variants.{At, Nowhere}
@@ -29,6 +29,16 @@ placesOf (e ∷ es) = chunkPlaces e ++ placesOf es
 -- the packets of a science recording are those in its listed health chunks
 abbrev pub sciencePlaces : ℕ → List ℕ → List ℕ
 sciencePlaces sync ws = placesOf (reading sync ws)
+
+-- the place p lies in one of these chunks, and that chunk ends with the recording
+unfoldable pub inEnd : ℕ → List Entry → Bool
+inEnd p [] = false
+inEnd p (e ∷ es) = (e .end && within p e) || inEnd p es
+
+-- the mark of a packet of a science recording: the listed chunk in which it stands ends with the recording
+unfoldable pub scienceEnd : ℕ → List ℕ → Sought → Bool
+scienceEnd sync ws (At p) = inEnd (p .0) (reading sync ws)
+scienceEnd sync ws Nowhere = false
 
 -- a health recording is packets back to back
 abbrev pub healthPlaces : List ℕ → List ℕ

@@ -24,11 +24,19 @@ enum Sought {
     Nowhere,
 }
 
-// Where the packet stands: in the science recording (1) or in the health recording (2), at a place of it.
+// What was found in a science recording, and whether the chunk that it stands in ends with the recording.
+struct Marked {
+    found: Sought,
+    end: bool,
+}
+
+// Where the packet stands: in the science recording (1) or in the health recording (2), at a place of it; and whether it stands
+// in a chunk that ends with the science recording.
 pub struct Place {
     pub refusal: u8,
     pub recording: u8,
     pub at: Words,
+    pub end: bool,
 }
 
 // What the arguments alone refuse.
@@ -81,26 +89,27 @@ fn newer(science: u16, health: u16) -> u8
     1
 }
 
-// The place of what was found in a recording.
-fn place_in(recording: u8, found: Sought) -> Place
-    ensures { λ r. ⌜ r ≡ placeIn recording found ⌝ }
+// The place of what was found in a recording, with its mark.
+fn place_in(recording: u8, found: Sought, end: bool) -> Place
+    ensures { λ r. ⌜ r ≡ placeIn recording found end ⌝ }
 {
     match found {
         Sought::At(at) => Place {
             refusal: 0,
             recording,
             at,
+            end,
         },
         Sought::Nowhere => refused(0),
     }
 }
 
 // The rule for which packet is shown: that of the recording that alone has one, or, where both have one, the newer.
-fn choose(science: Sought, health: Sought, newer: u8) -> Place
-    ensures { λ r. ⌜ r ≡ shown science health newer ⌝ }
+fn choose(science: Sought, end: bool, health: Sought, newer: u8) -> Place
+    ensures { λ r. ⌜ r ≡ shown science end health newer ⌝ }
 {
-    let in_science = place_in(1, science);
-    let in_health = place_in(2, health);
+    let in_science = place_in(1, science, end);
+    let in_health = place_in(2, health, false);
     if in_health.recording == 0 {
         return in_science;
     }
@@ -123,6 +132,7 @@ fn refused(number: u8) -> Place
         refusal: number,
         recording: 0,
         at: Words(0),
+        end: false,
     }
 }
 
@@ -130,12 +140,13 @@ fn refused(number: u8) -> Place
 fn newest(science: &[u16], sync: u16, health: &[u16], packet_type: u16) -> Place
     ensures { λ r. ⌜ r ≡ newest sync (now (science .entry)) (now (health .entry)) «packet_type» ⌝ }
 {
-    let in_science = seek::in_science(science, sync, packet_type);
+    let marked = seek::in_science(science, sync, packet_type);
+    let in_science = marked.found;
     let in_health = seek::in_row(health, packet_type, Words(0), health.len() / PACKET.0);
     let science_time = time_at(science, in_science);
     let health_time = time_at(health, in_health);
     let newer = newer(science_time, health_time);
-    choose(in_science, in_health, newer)
+    choose(in_science, marked.end, in_health, newer)
 }
 
 // Where the packet that is shown of a type stands: the second call beside `last_packet`, and its number.

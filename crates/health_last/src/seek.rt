@@ -1,4 +1,5 @@
 // The search for a packet, in a row of packets, in a chunk and in a science recording.
+use crate::Marked;
 use crate::Sought;
 use base::Words;
 use base::size::PACKET;
@@ -12,7 +13,8 @@ ghost use Prim.Native.Nat.{_+_, _*_, _≤_};
 ghost use lib.ListN.{length};
 ghost use Rattle.base.specs.Size.{packetWidth};
 ghost use Rattle.chunk.specs.Header.{span};
-ghost use Rattle.health_last.specs.Packets.{packetPlaces, chunkPlaces, soundOf, later, lastWhere};
+ghost use Rattle.health_last.specs.Packets.{packetPlaces, chunkPlaces, scienceEnd, soundOf, lastWhere};
+ghost use Rattle.health_last.specs.Seek.{laterMarked};
 ghost use Rattle.health_last.specs.Last.{inScience};
 
 // Whether a sound packet of the type stands at a place. The CRC is computed only where the type is the asked one.
@@ -57,27 +59,36 @@ fn in_chunk(words: &[u16], packet_type: u16, chunk: Entry) -> Sought
     )
 }
 
-fn latest(found: Sought, before: Sought) -> Sought
-    ensures { λ r. ⌜ r ≡ later found before ⌝ }
+fn latest(here: Marked, before: Marked) -> Marked
+    ensures { λ r. ⌜ r ≡ laterMarked here before ⌝ }
 {
+    let found = here.found;
     match found {
-        Sought::At(at) => Sought::At(at),
+        Sought::At(_) => here,
         Sought::Nowhere => before,
     }
 }
 
-// The last sound packet of the type in the listed health chunks.
-pub fn in_science(words: &[u16], sync: u16, packet_type: u16) -> Sought
-    ensures { λ r. ⌜ r ≡ inScience sync (now (words .entry)) «packet_type» ⌝ }
+// The last sound packet of the type in the listed health chunks, with the mark of its chunk.
+pub fn in_science(words: &[u16], sync: u16, packet_type: u16) -> Marked
+    ensures { λ r. ⌜ r .found ≡ inScience sync (now (words .entry)) «packet_type» ⌝ }
+    ensures { λ r. ⌜ r .end ≡ scienceEnd sync (now (words .entry)) (inScience sync (now (words .entry)) «packet_type») ⌝ }
 {
-    let mut last = Sought::Nowhere;
+    let mut last = Marked {
+        found: Sought::Nowhere,
+        end: false,
+    };
     let mut at = Words(0);
     loop {
         let found = search::next(words, sync, at);
         let Found::Chunk(chunk, next) = found else {
             return last;
         };
-        last = latest(in_chunk(words, packet_type, chunk), last);
+        let here = Marked {
+            found: in_chunk(words, packet_type, chunk),
+            end: chunk.end,
+        };
+        last = latest(here, last);
         at = next;
     }
 }

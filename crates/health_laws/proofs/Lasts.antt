@@ -9,7 +9,7 @@ use native.Mathlib.Omega.{arith}
 use lib.ListN.{length, getD}
 use lib.Dec.{eqb}
 use Rattle.chunk.specs.declared.Entry.{Entry}
-use Rattle.chunk.specs.Header.{kind, size, span, confirmed}
+use Rattle.chunk.specs.Header.{kind, size, span, confirmed, atEnd}
 use Rattle.chunk.specs.Reading.{entry, listed}
 use Rattle.chunk.proofs.Headers.{confirmed-within}
 use Rattle.health_last.specs.Packets.{packetPlaces, chunkPlaces, placesOf, sciencePlaces, healthPlaces, soundOf, foundAt, nowhere, lastWhere}
@@ -39,8 +39,8 @@ unfolding packetPlaces
 row-rises zero at hi h = omega arith
 row-rises (suc n) at hi h = (omega arith, rising-wider (packetPlaces n (at + 32)) (omega arith) (omega arith) (row-rises n (at + 32) hi (omega arith)))
 
-module _ (p h : ℕ) where
-  chunk-rises : Rising p (p + span h) (chunkPlaces (entry p h))
+module _ (p h : ℕ) (end : Bool) where
+  chunk-rises : Rising p (p + span h) (chunkPlaces (entry p h end))
   unfolding chunkPlaces
   chunk-rises = by-kind (eqb (kind h) 1)
     where
@@ -59,15 +59,16 @@ reading-rises sync at zero (w ∷ ws) h = by-check (λ left k. reading-rises syn
         → (b : Bool) → confirmed sync (w ∷ ws) ≡ b
         → Rising (at + 0) (at + suc (length ws))
         (placesOf (elim b as (λ x. List Entry) [
-          | true ↦ entry at (getD ws 0 0) ∷ listed sync (suc at) (suc (size (getD ws 0 0))) ws
+          | true ↦ entry at (getD ws 0 0) (atEnd (w ∷ ws)) ∷ listed sync (suc at) (suc (size (getD ws 0 0))) ws
           | false ↦ listed sync (suc at) zero ws
         ]))
     by-check rest true e =
         let b = confirmed-within sync (w ∷ ws) e in
-        let rows = chunk-rises at (getD ws 0 0) in
+        let end = atEnd (w ∷ ws) in
+        let rows = chunk-rises at (getD ws 0 0) end in
         let tail = placesOf (listed sync (suc at) (suc (size (getD ws 0 0))) ws) in
-        rising-wider (chunkPlaces (entry at (getD ws 0 0)) ++ tail) (omega arith) (omega arith)
-        (rising-append at (at + span (getD ws 0 0)) (suc at + length ws) (chunkPlaces (entry at (getD ws 0 0))) tail rows
+        rising-wider (chunkPlaces (entry at (getD ws 0 0) end) ++ tail) (omega arith) (omega arith)
+        (rising-append at (at + span (getD ws 0 0)) (suc at + length ws) (chunkPlaces (entry at (getD ws 0 0) end)) tail rows
         (rising-wider tail (omega arith) (omega arith) (rest (suc (size (getD ws 0 0))) (omega (arith, b .0)))))
     by-check rest false e = rising-wider (placesOf (listed sync (suc at) zero ws)) (omega arith) (omega arith) (rest 0 (omega arith))
 

@@ -2,7 +2,7 @@
 -- follows, case by case, from what was found in each recording: of two packets the number of the newer decides, and where the arguments are right the reply
 -- is a refusal only where that number is 0.
 use mathlib.Core.Path.{_≡_, refl, sym, ap, ap₂, _∙_}
-use mathlib.Core.Bool.{true, cond, _&&_}
+use mathlib.Core.Bool.{Bool, true, false, cond, _&&_}
 use mathlib.Core.List.{List}
 use mathlib.Core.Logic.{_⊎_, inl, inr}
 use Prim.Native.Nat.{ℕ, _+_, _%_, _≤_, _<_}
@@ -13,10 +13,11 @@ use borrow.Author.Tests.{eqb-true, eqb-false, leb-true, leb-false}
 use Rattle.base.specs.Refusal.{verdict}
 use Rattle.base.proofs.Booleans.{by-test}
 use Rattle.base.proofs.Refused.{answer-yes, answer-number, spared}
+use Rattle.chunk_laws.specs.Stretch.{empty}
 use Rattle.chunk_laws.specs.Written.{recorded}
 use Rattle.health.specs.Packet.{packetAt, packetType, packetTime, soundPacket}
 use Rattle.health_last.specs.declared.Place.{Place}
-use Rattle.health_last.specs.Packets.{sciencePlaces, healthPlaces, soundOf, foundAt, lastWhere}
+use Rattle.health_last.specs.Packets.{sciencePlaces, scienceEnd, healthPlaces, soundOf, foundAt, lastWhere}
 use Rattle.health_last.specs.Last.{inScience, inHealth, place, refused, ahead, newer, timeAt, placeIn, shown, newest, lastCauses, lastPlaceReply, partAt, lastPacketReply}
 use Rattle.health_last.proofs.Turn.{half, after, not-after}
 use Rattle.health_last.proofs.Placed.{last-holds, sound-parts, newest-accepted, newest-recording, none-refused, found-shown, of-science, of-health, science-part, health-part}
@@ -74,11 +75,11 @@ newer-without-epoch s h c a b =
 
 module _ (sync : ℕ) (science health : List ℕ) (t : ℕ) where
   -- where the reply is this place, the part is the packet there
-  science-shown : (p : ℕ) → lastPlaceReply sync science health t ≡ place 0 1 p → ScienceShown sync science health t p
+  science-shown : (p : ℕ) → lastPlaceReply sync science health t ≡ place 0 1 p (scienceEnd sync science (foundAt p)) → ScienceShown sync science health t p
   unfolding partAt
   science-shown p e = (e, ap (λ (s : Place). partAt s science health) e)
 
-  health-shown : (q : ℕ) → lastPlaceReply sync science health t ≡ place 0 2 q → HealthShown sync science health t q
+  health-shown : (q : ℕ) → lastPlaceReply sync science health t ≡ place 0 2 q false → HealthShown sync science health t q
   unfolding partAt
   health-shown q e = (e, ap (λ (s : Place). partAt s science health) e)
 
@@ -87,7 +88,7 @@ module _ (sync : ℕ) (science health : List ℕ) (t : ℕ) where
       → lastPlaceReply sync science health t ≡ s
   is-shown z e h = sym (found-shown sync science t health refl z (sym e) h)
 
-  is-nothing : RightlyAsked science health t → newest sync science health t ≡ place 0 0 0 → NothingShown sync science health t
+  is-nothing : RightlyAsked science health t → newest sync science health t ≡ place 0 0 0 false → NothingShown sync science health t
   unfolding partAt
   is-nothing z e =
       let k = sym (none-refused sync science t health refl z (sym e) refl) in
@@ -103,9 +104,10 @@ module _ (sync : ℕ) (science health : List ℕ) (t : ℕ) where
       (answer-yes v refused (newest sync science health t) z, eqb-false _ 0 (spared (lastCauses sync science health t) refl z .1 .1 .0))
 
   -- what is to be shown, by what was found
-  by-found : {a b : _} → inScience sync science t ≡ a → inHealth health t ≡ b → newest sync science health t ≡ shown a b (newer (timeAt science a) (timeAt health b))
+  by-found : {a b : _} → inScience sync science t ≡ a → inHealth health t ≡ b
+      → newest sync science health t ≡ shown a (scienceEnd sync science a) b (newer (timeAt science a) (timeAt health b))
   unfolding newest
-  by-found ea eb = ap₂ (λ a b. shown a b (newer (timeAt science a) (timeAt health b))) ea eb
+  by-found ea eb = ap₂ (λ a b. shown a (scienceEnd sync science a) b (newer (timeAt science a) (timeAt health b))) ea eb
 
   module _ (p q : ℕ) (both : BothFound sync science health t p q) where
     abbrev s : ℕ
@@ -114,9 +116,14 @@ module _ (sync : ℕ) (science health : List ℕ) (t : ℕ) where
     abbrev h : ℕ
     h = packetTime (packetAt health q)
 
-    by-number : (n : ℕ) → newer s h ≡ n → newest sync science health t ≡ cond (eqb n 1) (place 0 1 p) (cond (eqb n 2) (place 0 2 q) (place 0 0 0))
+    -- the mark of the science recording's
+    abbrev end : Bool
+    end = scienceEnd sync science (foundAt p)
+
+    by-number : (n : ℕ) → newer s h ≡ n
+        → newest sync science health t ≡ cond (eqb n 1) (place 0 1 p end) (cond (eqb n 2) (place 0 2 q false) (place 0 0 0 false))
     unfolding shown placeIn timeAt
-    by-number n e = by-found (both .0) (both .1) ∙ ap (λ (n : ℕ). cond (eqb n 1) (place 0 1 p) (cond (eqb n 2) (place 0 2 q) (place 0 0 0))) e
+    by-number n e = by-found (both .0) (both .1) ∙ ap (λ (n : ℕ). cond (eqb n 1) (place 0 1 p end) (cond (eqb n 2) (place 0 2 q false) (place 0 0 0 false))) e
 
     never-stale : lastPlaceReply sync science health t .refusal ≡ 0
         → (ScienceShown sync science health t p × ((ahead s h ≡ 0) ⊎ (32768 < ahead s h))) ⊎ (HealthShown sync science health t q × (1 ≤ ahead s h) × (ahead s h ≤ 32767))
@@ -187,7 +194,10 @@ module _ (sync : ℕ) (p q : Packet) (a : ScienceWith p) (b : HealthWith q) (sam
   j = length (packets (b .before))
 
   first-found : inScience sync science (p .type) ≡ foundAt i
-  first-found = last-in-science sync (a .before) (a .carrier) (a .after) (a .earlier) p (a .later) (a .carries) (a .last)
+  first-found = last-in-science sync (a .before) (a .carrier) (a .after) (a .earlier) p (a .later) (a .carries) (a .last) .0
+
+  first-mark : scienceEnd sync science (foundAt i) ≡ empty (a .after)
+  first-mark = last-in-science sync (a .before) (a .carrier) (a .after) (a .earlier) p (a .later) (a .carries) (a .last) .1
 
   second-found : inHealth health (p .type) ≡ foundAt j
   second-found = ap (inHealth health) (sym same) ∙ last-in-health (b .before) q (b .after) (b .last)
@@ -199,7 +209,8 @@ module _ (sync : ℕ) (p q : Packet) (a : ScienceWith p) (b : HealthWith q) (sam
   second-there = stands-in-health (b .before) q (b .after)
 
   by-times : (n : ℕ) → newer (p .time) (q .time) ≡ n
-      → newest sync science health (p .type) ≡ cond (eqb n 1) (place 0 1 i) (cond (eqb n 2) (place 0 2 j) (place 0 0 0))
+      → newest sync science health (p .type)
+      ≡ cond (eqb n 1) (place 0 1 i (scienceEnd sync science (foundAt i))) (cond (eqb n 2) (place 0 2 j false) (place 0 0 0 false))
   by-times n e =
       by-number sync science health (p .type) i j (first-found, second-found) n
       (ap₂ newer (ap packetTime first-there ∙ time-left p) (ap packetTime second-there ∙ time-left q) ∙ e)
@@ -209,7 +220,11 @@ newest-comes-back sync p q a b same z =
     let s = science sync p q a b same in
     let h = health sync p q a b same in
     let t = p .type in (
-      λ e. science-shown sync s h t _ (is-shown sync s h t z (by-times sync p q a b same 1 e) (λ x. omega (arith, x))) .1 ∙ first-there sync p q a b same,
-      λ e. health-shown sync s h t _ (is-shown sync s h t z (by-times sync p q a b same 2 e) (λ x. omega (arith, x))) .1 ∙ second-there sync p q a b same,
+      λ e.
+          let k = science-shown sync s h t _ (is-shown sync s h t z (by-times sync p q a b same 1 e) (λ x. omega (arith, x))) in
+          (k .1 ∙ first-there sync p q a b same, ap (λ (x : Place). x .end) (k .0) ∙ first-mark sync p q a b same),
+      λ e.
+          let k = health-shown sync s h t _ (is-shown sync s h t z (by-times sync p q a b same 2 e) (λ x. omega (arith, x))) in
+          (k .1 ∙ second-there sync p q a b same, ap (λ (x : Place). x .end) (k .0)),
       λ e. is-nothing sync s h t z (by-times sync p q a b same 0 e),
     )

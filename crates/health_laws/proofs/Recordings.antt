@@ -1,9 +1,9 @@
 -- The last packet of a type in a recording that is made of written packets. Whether a sound packet of the type stands at a place is told by the words from
 -- there on, which begin with a written packet; so the search goes through the packets as they were written, and what it finds is theirs to say.
-use mathlib.Core.Path.{_≡_, refl, sym, ap, _∙_}
+use mathlib.Core.Path.{_≡_, refl, sym, ap, ap₂, _∙_}
 use mathlib.Core.Bool.{Bool, true, false, not, _&&_}
 use mathlib.Core.List.{List, [], _∷_, _++_, map, append-nil, append-assoc}
-use Prim.Native.Nat.{ℕ, _+_, _*_, _/_}
+use Prim.Native.Nat.{ℕ, _+_, _*_, _/_, _<_}
 use native.Mathlib.Omega.{arith}
 use lib.ListN.{length, take, drop, length-append, take-append-drop}
 use lib.Seq.{take-at, drop-at, drop-drop, take-append-seam}
@@ -12,15 +12,16 @@ use borrow.Author.Tests.{eq-eqb, ne-eqb, eqb-true, eqb-false, not-true}
 use Rattle.base.proofs.Booleans.{and-left, and-right, and-both, by-test}
 use Rattle.chunk.specs.declared.Entry.{Entry}
 use Rattle.chunk.specs.Header.{kind, size, span}
-use Rattle.chunk.specs.Reading.{entry}
-use Rattle.chunk_laws.specs.Stretch.{Laid, words, offset, whole, wholeRow}
+use Rattle.chunk.specs.Reading.{entry, reading}
+use Rattle.chunk_laws.specs.Stretch.{Laid, words, empty, offset, whole, wholeRow}
 use Rattle.chunk_laws.specs.Written.{Accepted, written, recorded}
 use Rattle.chunk_laws.proofs.Rows.{entries, whole-length, row-first, row-rest, row-drop, lists-row}
 use Rattle.chunk_laws.proofs.Written.{laid, kind-written, accepted-taken, row-whole, recorded-words}
 use Rattle.health.specs.Packet.{packetType}
-use Rattle.health_last.specs.Packets.{foundAt, nowhere, packetPlaces, chunkPlaces, placesOf, soundOf, later, lastWhere}
+use Rattle.health_last.specs.Packets.{foundAt, nowhere, packetPlaces, chunkPlaces, placesOf, inEnd, scienceEnd, soundOf, later, lastWhere}
 use Rattle.health_last.specs.Last.{inScience}
 use Rattle.health_last.proofs.Later.{last-append}
+use Rattle.health_last.proofs.Marks.{past-first, inside-first, none-before}
 use Rattle.health_laws.specs.Recordings.{Packet, left, packets, noneOf, LastInHealth, NoneInHealth, Carrier, calls, allCarried, LastInScience, NoneInScience}
 use Rattle.health_laws.proofs.RoundTrip.{accepted-parts, written-packet, left-is-sound}
 
@@ -140,9 +141,9 @@ module _ (c : Carrier) (k : whole (chunk c) ≡ true) where
       (λ e. let zero : kind header ≡ 0 = omega (arith, eqb-false (kind header) 1 e) in image zero (c .image (sym kind-told ∙ zero)))
 
   -- the packets of the chunk are those that it carries
-  carried-places : (at : ℕ) → chunkPlaces (entry at header) ≡ packetPlaces (length (c .carried)) (at + 2)
+  carried-places : (at : ℕ) (end : Bool) → chunkPlaces (entry at header end) ≡ packetPlaces (length (c .carried)) (at + 2)
   unfolding chunkPlaces packetPlaces
-  carried-places at =
+  carried-places at end =
       by-kind
       (λ e none. rw (ne-eqb (kind header) 1 (λ z. omega (arith, e, z)), none))
       (λ e all.
@@ -157,6 +158,12 @@ module _ (c : Carrier) (k : whole (chunk c) ≡ true) where
       (λ e all. rw all (take-append-seam (packets (c .carried)) tail))
 
 -- ---- a row of chunks that stands at a place
+
+-- the first chunk of a row ends with the recording exactly where no other follows it
+first-entry : (at : ℕ) (c : Carrier) (cs : List Carrier)
+    → entries at (chunks (c ∷ cs)) ≡ entry at (chunk c .header) (empty cs) ∷ entries (at + span (chunk c .header)) (chunks cs)
+first-entry at c [] = refl
+first-entry at c (d ∷ cs) = refl
 
 module _ (sync : ℕ) (ws : List ℕ) (at : ℕ) (c : Carrier) (cs : List Carrier) (k : wholeRow (chunks (c ∷ cs)) ≡ true) (e : drop at ws ≡ words sync (chunks (c ∷ cs))) where
   abbrev tail : List ℕ
@@ -185,8 +192,9 @@ module _ (sync : ℕ) (ws : List ℕ) (at : ℕ) (c : Carrier) (cs : List Carrie
   unfolding placesOf
   by-chunk t =
       let f = soundOf ws t in
-      last-append f (chunkPlaces (entry at (chunk c .header))) (placesOf (entries (at + span (chunk c .header)) (chunks cs)))
-      ∙ rw (carried-places c first-whole at)
+      ap (λ (es : List Entry). lastWhere f (placesOf es)) (first-entry at c cs)
+      ∙ last-append f (chunkPlaces (entry at (chunk c .header) (empty cs))) (placesOf (entries (at + span (chunk c .header)) (chunks cs)))
+      ∙ rw (carried-places c first-whole at (empty cs))
 
 -- ---- none, and the last one, in a row of chunks
 
@@ -231,6 +239,41 @@ last-in-chunks sync ws at (b ∷ before) c after earlier p later k e carries n =
     )
     (ap foundAt (omega (arith, length-append (b .call .payload) (words sync (chunks before)), whole-length (chunk b) (first-whole sync ws at b cs k e))))
 
+-- ---- the mark of a packet of a row of chunks
+
+-- a packet lies within the chunk that carries it
+carried-within : (c : Carrier) → whole (chunk c) ≡ true → (earlier : List Packet) (p : Packet) (later : List Packet) → c .carried ≡ earlier ++ p ∷ later
+    → length (packets earlier) < size (chunk c .header)
+carried-within c k earlier p later carries =
+    by-kind c k
+    (λ e none. absurd (omega (arith, ap length (sym carries ∙ none), length-append earlier (p ∷ later))))
+    λ e all.
+    let n = length-append earlier (p ∷ later) in
+    omega (arith, whole-length (chunk c) k, ap length (all ∙ ap packets carries), packets-length (earlier ++ p ∷ later), n, packets-length earlier)
+
+mark-in-chunks : (sync at : ℕ) (before : List Carrier) (c : Carrier) (after : List Carrier) (earlier : List Packet) (p : Packet) (later : List Packet)
+    → wholeRow (chunks (before ++ c ∷ after)) ≡ true → c .carried ≡ earlier ++ p ∷ later
+    → inEnd (at + offset sync (chunks before) + 2 + length (packets earlier)) (entries at (chunks (before ++ c ∷ after))) ≡ empty after
+mark-in-chunks sync at [] c after earlier p later k carries =
+    let first = entry at (chunk c .header) (empty after) in
+    let i = at + 0 + 2 + length (packets earlier) in
+    let n = carried-within c (row-first (chunk c) (chunks after) k) earlier p later carries in
+    let next = at + span (chunk c .header) in
+    let listed-next = lists-row sync next (chunks after) (row-rest (chunk c) (chunks after) k) in
+    ap (inEnd i) (first-entry at c after)
+    ∙ inside-first first i (entries next (chunks after)) (omega arith) (omega (arith, n))
+    (ap (inEnd i) (sym listed-next) ∙ none-before sync next 0 (words sync (chunks after)) i (omega (arith, n)))
+mark-in-chunks sync at (b ∷ before) c after earlier p later k carries =
+    let cs = before ++ c ∷ after in
+    let next = at + span (chunk b .header) in
+    let i = at + offset sync (chunks (b ∷ before)) + 2 + length (packets earlier) in
+    let j = next + offset sync (chunks before) + 2 + length (packets earlier) in
+    let n : i ≡ j = omega (arith, length-append (b .call .payload) (words sync (chunks before)), whole-length (chunk b) (row-first (chunk b) (chunks cs) k)) in
+    ap (inEnd i) (first-entry at b cs)
+    ∙ past-first (entry at (chunk b .header) (empty cs)) i (entries next (chunks cs)) (omega (arith, n))
+    ∙ ap (λ (x : ℕ). inEnd x (entries next (chunks cs))) n
+    ∙ mark-in-chunks sync next before c after earlier p later (row-rest (chunk b) (chunks cs) k) carries
+
 -- ---- so in a recording that the chunk writer wrote
 
 all-accepted : (cs : List Carrier) → Accepted (calls cs)
@@ -250,11 +293,17 @@ module _ (sync : ℕ) (cs : List Carrier) where
       ∙ ap (λ (es : List Entry). lastWhere (soundOf (words sync (chunks cs)) t) (placesOf es)) (lists-row sync 0 (chunks cs) chunks-whole)
 
 pub last-in-science : LastInScience
+unfolding scienceEnd
 last-in-science sync before c after earlier p later carries n =
     let cs = before ++ c ∷ after in
-    by-entries sync cs (p .type)
-    ∙ last-in-chunks sync (words sync (chunks cs)) 0 before c after earlier p later (chunks-whole sync cs) refl carries n
-    ∙ ap foundAt (omega (arith, ap length (as-chunks sync before)))
+    let at : 0 + offset sync (chunks before) + 2 + length (packets earlier) ≡ length (recorded sync (calls before)) + 2 + length (packets earlier) =
+    omega (arith, ap length (as-chunks sync before)) in (
+      by-entries sync cs (p .type)
+          ∙ last-in-chunks sync (words sync (chunks cs)) 0 before c after earlier p later (chunks-whole sync cs) refl carries n
+          ∙ ap foundAt at,
+      ap₂ inEnd (sym at) (ap (reading sync) (as-chunks sync cs) ∙ lists-row sync 0 (chunks cs) (chunks-whole sync cs))
+          ∙ mark-in-chunks sync 0 before c after earlier p later (chunks-whole sync cs) carries,
+    )
 
 pub none-in-science : NoneInScience
 none-in-science sync t cs n = by-entries sync cs t ∙ none-in-chunks t sync (words sync (chunks cs)) 0 cs (chunks-whole sync cs) refl n

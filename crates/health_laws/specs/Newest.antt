@@ -1,13 +1,14 @@
 -- FORMAT, "Health packets", the newest packet of a type: how the times of two packets are compared, and what is shown of two recordings.
 use Prim.Native.Nat.{ℕ, _+_, _%_, _≤_, _<_}
 use mathlib.Core.Path.{_≡_}
-use mathlib.Core.Bool.{true}
+use mathlib.Core.Bool.{true, false}
 use mathlib.Core.List.{List, [], _∷_, _++_}
 use mathlib.Core.Logic.{_⊎_}
 use Rattle.base.specs.Refusal.{verdict}
 use Rattle.health.specs.Packet.{packetAt, packetType, packetTime, soundPacket}
-use Rattle.health_last.specs.Packets.{foundAt, nowhere}
+use Rattle.health_last.specs.Packets.{scienceEnd, foundAt, nowhere}
 use Rattle.health_last.specs.Last.{inScience, inHealth, place, ahead, newer, argumentCauses, lastPlaceReply, lastPacketReply}
+use Rattle.chunk_laws.specs.Stretch.{empty}
 use Rattle.chunk_laws.specs.Written.{recorded}
 use Rattle.health_laws.specs.Recordings.{Packet, left, packets, noneOf, Carrier, calls, allCarried}
 
@@ -34,15 +35,16 @@ abbrev pub apart : List ℕ → List ℕ → ℕ → ℕ → ℕ
 apart science health p q = ahead (packetTime (packetAt science p)) (packetTime (packetAt health q))
 
 module _ (sync : ℕ) (science health : List ℕ) (t : ℕ) where
-  -- both calls show the packet at this place of the science recording, or of the health recording, or refuse with 2
+  -- both calls show the packet at this place of the science recording, with its mark, or of the health recording, or refuse with 2
   abbrev pub ScienceShown : ℕ → Type 0
-  ScienceShown p = (lastPlaceReply sync science health t ≡ place 0 1 p) × (lastPacketReply sync science health t ≡ packetAt science p)
+  ScienceShown p = (lastPlaceReply sync science health t ≡ place 0 1 p (scienceEnd sync science (foundAt p)))
+      × (lastPacketReply sync science health t ≡ packetAt science p)
 
   abbrev pub HealthShown : ℕ → Type 0
-  HealthShown q = (lastPlaceReply sync science health t ≡ place 0 2 q) × (lastPacketReply sync science health t ≡ packetAt health q)
+  HealthShown q = (lastPlaceReply sync science health t ≡ place 0 2 q false) × (lastPacketReply sync science health t ≡ packetAt health q)
 
   abbrev pub NothingShown : Type 0
-  NothingShown = (lastPlaceReply sync science health t ≡ place 2 0 0) × (lastPacketReply sync science health t ≡ [])
+  NothingShown = (lastPlaceReply sync science health t ≡ place 2 0 0 false) × (lastPacketReply sync science health t ≡ [])
 
   -- both recordings have a packet of the type, the last at p and at q
   abbrev pub BothFound : ℕ → ℕ → Type 0
@@ -92,10 +94,13 @@ pub record HealthWith (q : Packet) : Type 0 where
 abbrev pub healthWords : {q : Packet} → HealthWith q → List ℕ
 healthWords {q} r = packets (r .before ++ q ∷ r .after)
 
--- Of the two last packets of a type the newer comes back as it was written, and nothing where neither is.
+-- Of the two last packets of a type the newer comes back as it was written, and nothing where neither is. It has the mark exactly where it stands in
+-- the last chunk of the science recording.
 abbrev pub NewestComesBack : Type 0
 NewestComesBack = (sync : ℕ) (p q : Packet) (a : ScienceWith p) (b : HealthWith q) → q .type ≡ p .type
     → RightlyAsked (scienceWords sync a) (healthWords b) (p .type)
-    → (newer (p .time) (q .time) ≡ 1 → lastPacketReply sync (scienceWords sync a) (healthWords b) (p .type) ≡ left p)
-    × (newer (p .time) (q .time) ≡ 2 → lastPacketReply sync (scienceWords sync a) (healthWords b) (p .type) ≡ left q)
+    → (newer (p .time) (q .time) ≡ 1 → (lastPacketReply sync (scienceWords sync a) (healthWords b) (p .type) ≡ left p)
+    × (lastPlaceReply sync (scienceWords sync a) (healthWords b) (p .type) .end ≡ empty (a .after)))
+    × (newer (p .time) (q .time) ≡ 2 → (lastPacketReply sync (scienceWords sync a) (healthWords b) (p .type) ≡ left q)
+    × (lastPlaceReply sync (scienceWords sync a) (healthWords b) (p .type) .end ≡ false))
     × (newer (p .time) (q .time) ≡ 0 → NothingShown sync (scienceWords sync a) (healthWords b) (p .type))

@@ -6,8 +6,9 @@ use mathlib.Core.List.{List, [], _∷_, _++_}
 use lib.ListN.{length}
 use lib.Dec.{eqb}
 use Rattle.chunk.specs.Header.{headerWidth}
+use Rattle.chunk_laws.specs.Stretch.{empty}
 use Rattle.chunk_laws.specs.Written.{WriterCall, reply, recorded}
-use Rattle.health_last.specs.Packets.{foundAt, nowhere}
+use Rattle.health_last.specs.Packets.{scienceEnd, foundAt, nowhere}
 use Rattle.health_last.specs.Last.{inScience, inHealth}
 use Rattle.health_laws.specs.Written.{Accepted, written}
 
@@ -63,12 +64,13 @@ abbrev pub allCarried : List Carrier → List Packet
 allCarried [] = []
 allCarried (c ∷ cs) = c .carried ++ allCarried cs
 
--- the last packet of its type is found where it begins, past the chunks before its own and the header
+-- The last packet of its type is found where it begins, past the chunks before its own and the header. It has the mark exactly where its chunk is the last.
 abbrev pub LastInScience : Type 0
 LastInScience = (sync : ℕ) (before : List Carrier) (c : Carrier) (after : List Carrier) (earlier : List Packet) (p : Packet) (later : List Packet)
     → c .carried ≡ earlier ++ p ∷ later → noneOf (p .type) (later ++ allCarried after) ≡ true
-    → inScience sync (recorded sync (calls (before ++ c ∷ after))) (p .type)
-    ≡ foundAt (length (recorded sync (calls before)) + headerWidth + length (packets earlier))
+    → (let ws = recorded sync (calls (before ++ c ∷ after)) in
+    let at = length (recorded sync (calls before)) + headerWidth + length (packets earlier) in
+    (inScience sync ws (p .type) ≡ foundAt at) × (scienceEnd sync ws (foundAt at) ≡ empty after))
 
 -- and nothing where no packet is of the type
 abbrev pub NoneInScience : Type 0

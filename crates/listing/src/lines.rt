@@ -36,15 +36,19 @@ fn kind(out: Out, page: &mut [u8; PAGE.0], header: u16) -> Out {
     out.text(page, b" image ")
 }
 
+// A chunk that ends with the recording is marked: no header after it confirms its end.
 fn chunk(out: Out, page: &mut [u8; PAGE.0], entry: Entry) -> Out {
     let word = entry.header;
     let placed = out.number(page, entry.position.0);
     let begun = kind(placed, page, word);
-    begun
+    let sized = begun
         .number(page, header::camera_of(word) as usize)
         .text(page, b" ")
-        .number(page, header::size_of(word).0)
-        .text(page, b"\n")
+        .number(page, header::size_of(word).0);
+    if entry.end {
+        return sized.text(page, b" end\n");
+    }
+    sized.text(page, b"\n")
 }
 
 // A line for each listed chunk.
@@ -91,8 +95,8 @@ pub fn frames_and_strays(out: Out, page: &mut [u8; PAGE.0], words: &[u16], sync:
                 said = frame(said, page, place, described);
                 at = next.0;
             }
-            Piece::Stray(place, next) => {
-                said = stray(said, page, place);
+            Piece::Stray(entry, next) => {
+                said = stray(said, page, entry.position);
                 at = next.0;
             }
             Piece::End => {

@@ -1,13 +1,14 @@
 -- The examples, by computation.
 use Prim.Native.Nat.{ℕ}
 use mathlib.Core.Path.{_≡_, refl}
+use mathlib.Core.Bool.{false}
 use mathlib.Core.List.{[], _∷_}
 use lib.ListN.{getD, replicate}
 use Rattle.base.specs.Refusal.{answer, wrote, settled}
 use Rattle.base_room.specs.Room.{put}
 use Rattle.crc.specs.Crc.{crcBit, crcStep}
 use Rattle.chunk.specs.Header.{legalSize, legal, headed, confirmed}
-use Rattle.chunk.specs.Reading.{listed, skippedFrom}
+use Rattle.chunk.specs.Reading.{listed, anyEnd, skippedFrom}
 use Rattle.chunk_reading.specs.Counting.{surveyed, surveyReply}
 use Rattle.parity_rows.specs.Parity.{xorAll, number, bitFrom, rowParity, columnParity, rowWord, columnWord, parityWords}
 use Rattle.parity.specs.Unit.{unitOf, flipped, rowDiffers, columnDiffers, sumAll, firstOf, fiveCases, finding, unitData, checkVerdict, writeVerdict, reply, refused, checkReply, checkRoom, writeReply, writeRoom}
@@ -19,8 +20,8 @@ use Rattle.command.specs.Layout.{commandBytes}
 use Rattle.command_reading.specs.Reading.{command, noFields, given, readReply}
 use Rattle.promises.specs.Examples.{Examples, unit, upsetPacket, submode, patch}
 
-surveys : (sync : ℕ) → (surveyReply sync [] ≡ surveyed 0 0 0) × (surveyReply sync (sync ∷ []) ≡ surveyed 0 0 1)
-unfolding answer listed skippedFrom confirmed headed
+surveys : (sync : ℕ) → (surveyReply sync [] ≡ surveyed 0 0 0 false) × (surveyReply sync (sync ∷ []) ≡ surveyed 0 0 1 false)
+unfolding answer listed anyEnd skippedFrom confirmed headed
 surveys sync = (refl, refl)
 
 writes : (writeReply 1 9 ≡ wrote 0 9) × (writeRoom (0x8000 ∷ []) (replicate 9 0xFFFF) ≡ unit 0x8000 0x8000 0x8000)

@@ -88,6 +88,8 @@ pub record Total : Type 0 where
   pub kindOf : Determined chunk.kindOf
   pub legalSize : Determined chunk.legalSize
   pub check : Determined chunk.check
+  pub isChunk : Determined chunk.isChunk
+  pub isAtEnd : Determined chunk.isAtEnd
   pub nextChunk : Determined chunk.next
   pub refusedSurvey : Determined chunk.refused
   pub countChunks : Determined chunk.count

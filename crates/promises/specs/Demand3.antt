@@ -1,6 +1,6 @@
 -- FORMAT, "The three demands", the third: after any words, a clean stretch up to the end of a recording is read as it is read alone. Every chunk that begins
--- 8,185 words or more after the stretch's start is listed; from the first of its chunks that is listed the list is that of the stretch alone, and so is
--- every frame that starts there, asked for by its place or come to a step at a time.
+-- 8,185 words or more after the stretch's start is listed; from the first of its chunks that is listed the list, marks included, is that of the stretch
+-- alone, and so is every frame that starts there, asked for by its place or come to a step at a time.
 use Prim.Native.Nat.{ℕ, _≤_}
 use mathlib.Core.Path.{_≡_}
 use mathlib.Core.Bool.{true}

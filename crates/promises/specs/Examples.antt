@@ -38,7 +38,7 @@ patch = record { sequence = 0; «command_type» = 2; qualifier = 0; address = 0;
 
 pub record Examples : Type 0 where
   -- an empty recording has no chunk and 0 skipped; one sync word is 1 skipped
-  pub one : (sync : ℕ) → (surveyReply sync [] ≡ surveyed 0 0 0) × (surveyReply sync (sync ∷ []) ≡ surveyed 0 0 1)
+  pub one : (sync : ℕ) → (surveyReply sync [] ≡ surveyed 0 0 0 false) × (surveyReply sync (sync ∷ []) ≡ surveyed 0 0 1 false)
   -- image sizes 9, 264, 273, 8,184 legal; 0, 8, 265, 272, 8,185 not
   pub two : (map (legalSize 0) (9 ∷ 264 ∷ 273 ∷ 8184 ∷ []) ≡ true ∷ true ∷ true ∷ true ∷ [])
       × (map (legalSize 0) (0 ∷ 8 ∷ 265 ∷ 272 ∷ 8185 ∷ []) ≡ false ∷ false ∷ false ∷ false ∷ false ∷ [])

@@ -15,7 +15,9 @@ use Rattle.base.specs.declared.Written.{Written}
 use Rattle.base.proofs.Refused.{spared, answer-yes, answer-number, settled-refusal}
 use Rattle.base_room.proofs.RoomLaws.{writer-left}
 use Rattle.chunk.specs.declared.Entry.{Entry}
+use Rattle.chunk.specs.Header.{span}
 use Rattle.chunk.specs.Reading.{entry, reading}
+use Rattle.chunk.proofs.Marks.{Marked, reading-marked}
 use Rattle.reel.specs.declared.Reel.{Reel}
 use Rattle.reel.specs.Layout.{entryWidth, edition, indexWords, pointers, reelCrc, trailer, tailWords, reelOf, reelWords, reelLeast, reelMost}
 use Rattle.reel.specs.Reading.{sameWords, countOf, nOf, crcOf, editionOf, recordingOf, indexOf, trailerAgrees, indexAgrees, accepted, readCauses, readReply, told, refused}
@@ -154,14 +156,19 @@ accepted-is-written sync r room z fit =
 
 -- ---- an old index
 
--- the words of the entries tell the entries
-index-injective : (es fs : List Entry) → indexWords es ≡ indexWords fs → es ≡ fs
+-- the words of the entries tell the entries of recordings of one length: they have no mark, but it follows from position, header word and length
+index-injective : (n : ℕ) (es fs : List Entry) → Marked n es → Marked n fs → indexWords es ≡ indexWords fs → es ≡ fs
 unfolding indexWords
-index-injective [] [] e = refl
-index-injective [] (f ∷ fs) e = absurd (omega (arith, ap length e))
-index-injective (d ∷ es) [] e = absurd (omega (arith, ap length e))
-index-injective (d ∷ es) (f ∷ fs) e =
-    ap₂ (λ (x : Entry) (l : List Entry). x ∷ l) (ap₂ entry (ap (λ (l : List ℕ). getD l 0 0) e) (ap (λ (l : List ℕ). getD l 1 0) e)) (index-injective es fs (ap (drop 2) e))
+index-injective n [] [] m k e = refl
+index-injective n [] (f ∷ fs) m k e = absurd (omega (arith, ap length e))
+index-injective n (d ∷ es) [] m k e = absurd (omega (arith, ap length e))
+index-injective n (d ∷ es) (f ∷ fs) m k e =
+    let p : d .position .0 ≡ f .position .0 = ap (λ (l : List ℕ). getD l 0 0) e in
+    let h : d .header ≡ f .header = ap (λ (l : List ℕ). getD l 1 0) e in
+    let mark : d .end ≡ f .end = m .0 ∙ ap₂ (λ (x y : ℕ). eqb (x + span y) n) p h ∙ sym (k .0) in
+    ap₂ (λ (x : Entry) (l : List Entry). x ∷ l)
+    (ap₂ (λ (x y : ℕ). entry x y (d .end)) p h ∙ ap (entry (f .position .0) (f .header)) mark)
+    (index-injective n es fs (m .1) (k .1) (ap (drop 2) e))
 
 module _ (sync : ℕ) (ws other : List ℕ) (differ : length other ≡ length ws → reading sync other ≡ reading sync ws → ⊥) (h : length other ≤ reelLimit) where
   abbrev es : List Entry
@@ -172,8 +179,11 @@ module _ (sync : ℕ) (ws other : List ℕ) (differ : length other ≡ length ws
   old-entries same =
       ap (λ (m : ℕ). accepted sync (tailed other m es)) (sym same) ∙ own-accepted other es sync h ∙ by-test (sameWords (indexWords es) (indexWords (reading sync other))) refl
     where
+      other-marked : Marked (length ws) (reading sync other)
+      other-marked = rw same at (reading-marked sync other)
+
       by-test : (b : Bool) → sameWords (indexWords es) (indexWords (reading sync other)) ≡ b → sameWords (indexWords es) (indexWords (reading sync other)) ≡ false
-      by-test true z = absurd (differ same (sym (index-injective es (reading sync other) (same-true _ _ z))))
+      by-test true z = absurd (differ same (sym (index-injective (length ws) es (reading sync other) (reading-marked sync ws) other-marked (same-true _ _ z))))
       by-test false z = z
 
   -- of another length: the trailer tells of the old one

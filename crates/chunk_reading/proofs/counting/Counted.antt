@@ -1,26 +1,29 @@
 -- The loop that counts: what is counted up to `at` and what the reading gives from there on are all.
-use mathlib.Core.Path.{_≡_, ap}
+use mathlib.Core.Path.{_≡_, refl, sym, ap, _∙_}
+use mathlib.Core.Bool.{Bool, false, _||_, or-assoc, or-false}
 use mathlib.Core.List.{List}
 use Prim.Native.Nat.{ℕ, _+_, _-_, _≤_}
 use native.Mathlib.Omega.{arith}
 use lib.ListN.{length, drop}
 use Rattle.chunk.specs.declared.Entry.{Entry}
-use Rattle.chunk.specs.Reading.{listed, reading, skippedFrom, skipped}
+use Rattle.chunk.specs.Reading.{listed, reading, anyEnd, skippedFrom, skipped}
 use Rattle.chunk.proofs.Steps.{Next, Last}
 
-pub record Counted (sync : ℕ) (ws : List ℕ) (chunks noise at : ℕ) : Type 0 where
+pub record Counted (sync : ℕ) (ws : List ℕ) (chunks noise : ℕ) (end : Bool) (at : ℕ) : Type 0 where
   pub within : at ≤ length ws
   pub few : chunks ≤ at
   pub less : noise ≤ at
   pub many : chunks + length (listed sync at 0 (drop at ws)) ≡ length (reading sync ws)
   pub missed : noise + skippedFrom sync 0 (drop at ws) ≡ skipped sync ws
+  pub marked : end || anyEnd (listed sync at 0 (drop at ws)) ≡ anyEnd (reading sync ws)
 
 module _ (sync : ℕ) (ws : List ℕ) where
-  pub none-counted : Counted sync ws 0 0 0
-  none-counted = record { within = omega arith; few = omega arith; less = omega arith; many = omega arith; missed = omega arith }
+  pub none-counted : Counted sync ws 0 0 false 0
+  none-counted = record { within = omega arith; few = omega arith; less = omega arith; many = omega arith; missed = omega arith; marked = refl }
 
-  module _ (chunks noise at : ℕ) (c : Counted sync ws chunks noise at) where
-    pub chunk-counted : (e : Entry) (n : ℕ) → Next sync ws at e n → Counted sync ws (chunks + 1) (noise + (e .position .0 - at)) n
+  module _ (chunks noise : ℕ) (end : Bool) (at : ℕ) (c : Counted sync ws chunks noise end at) where
+    pub chunk-counted : (e : Entry) (n : ℕ) → Next sync ws at e n → Counted sync ws (chunks + 1) (noise + (e .position .0 - at)) (end || e .end) n
+    unfolding anyEnd
     chunk-counted e n s =
         record {
           within = s .within;
@@ -28,6 +31,7 @@ module _ (sync : ℕ) (ws : List ℕ) where
           less = omega (arith, c .less, s .ahead, s .end);
           many = omega (arith, c .many, ap length (s .lists));
           missed = omega (arith, c .missed, s .skips);
+          marked = or-assoc end (e .end) _ ∙ ap (λ (es : List Entry). end || anyEnd es) (sym (s .lists)) ∙ c .marked;
         }
 
     pub all-chunks : Last sync ws at → chunks ≡ length (reading sync ws)
@@ -35,3 +39,7 @@ module _ (sync : ℕ) (ws : List ℕ) where
 
     pub all-skipped : Last sync ws at → noise + (length ws - at) ≡ skipped sync ws
     all-skipped l = omega (arith, c .missed, l .skips)
+
+    pub any-end : Last sync ws at → end ≡ anyEnd (reading sync ws)
+    unfolding anyEnd
+    any-end l = sym (or-false end) ∙ ap (λ (es : List Entry). end || anyEnd es) (sym (l .lists)) ∙ c .marked

@@ -9,7 +9,7 @@ time-at-requires : tie.Need-time-at-requires
 time-at-requires c κs =
     let found = c .before .before in
     let a = found .before .before .before .args in
-    found-within (a .packet-type) (a .science .now) (sciencePlaces (a .sync) (a .science .now)) (found .in-science .ensures)
+    found-within (a .packet-type) (a .science .now) (sciencePlaces (a .sync) (a .science .now)) (found .in-science .ensures .0)
 
 time-at-requires-2 : tie.Need-time-at-requires-2
 time-at-requires-2 c κs =
@@ -22,7 +22,8 @@ returns c =
     let in-row = timed .before .before in
     let in-science = in-row .before .before in
     let a = in-science .before .before .before .args in
-    compared (a .sync) (a .science .now) (a .packet-type) (a .health .now) (in-science .in-science .ensures) (in-row .in-row .ensures)
+    compared (a .sync) (a .science .now) (a .packet-type) (a .health .now) (in-science .in-science .ensures .0) (in-science .in-science .ensures .1)
+    (in-row .in-row .ensures)
     (timed .before .time-at .ensures) (timed .time-at2 .ensures) (c .before .newer .ensures) (c .choose .ensures)
 
 pub newest-spec : {M : Type 1} → statement M

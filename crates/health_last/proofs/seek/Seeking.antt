@@ -11,14 +11,17 @@ use lib.Dec.{lit<}
 use borrow.Author.Tests.{eq-eqb, ne-eqb}
 use Rattle.chunk.specs.declared.Entry.{Entry}
 use Rattle.chunk.specs.Header.{kind, size}
-use Rattle.chunk.specs.Reading.{listed}
-use Rattle.chunk.proofs.Steps.{Next, Last}
+use Rattle.chunk.specs.Reading.{listed, reading}
+use Rattle.chunk.proofs.Steps.{Next, Last, past}
 use Rattle.health.specs.Packet.{packetType, soundPacket}
+use Rattle.health_last.specs.declared.Marked.{Marked}
 use Rattle.health_last.specs.declared.Sought.{Sought}
 use Rattle.health_last.specs.declared.Sought.the-variants.{At, Nowhere}
-use Rattle.health_last.specs.Packets.{packetPlaces, chunkPlaces, placesOf, soundOf, later, lastWhere}
+use Rattle.health_last.specs.Packets.{packetPlaces, chunkPlaces, placesOf, inEnd, scienceEnd, soundOf, later, lastWhere}
+use Rattle.health_last.specs.Seek.{laterMarked}
 use Rattle.health_last.specs.Last.{inScience}
 use Rattle.health_last.proofs.Later.{later-none, later-assoc, last-append}
+use Rattle.health_last.proofs.Marks.{chunk-bounds, past-first, inside-first, none-before}
 
 -- ---- one place
 
@@ -84,32 +87,66 @@ module _ (e : Entry) where
 
 -- ---- a science recording, chunk by chunk
 
--- what is left of the reading at a place, after what was found before it, gives the answer
-pub record Sifted (sync t : ℕ) (ws : List ℕ) (at : ℕ) (last : Sought) : Type 0 where
+-- What is left of the reading at a place, after what was found before it, gives the answer; what was found has its mark, and from that place on what is left
+-- tells the mark of a place.
+pub record Sifted (sync t : ℕ) (ws : List ℕ) (at : ℕ) (last : Marked) : Type 0 where
   pub within : at ≤ length ws
-  pub answers : later (lastWhere (soundOf ws t) (placesOf (listed sync at 0 (drop at ws)))) last ≡ inScience sync ws t
+  pub answers : later (lastWhere (soundOf ws t) (placesOf (listed sync at 0 (drop at ws)))) (last .found) ≡ inScience sync ws t
+  pub mark : last .end ≡ scienceEnd sync ws (last .found)
+  pub rest : (p : ℕ) → at ≤ p → inEnd p (reading sync ws) ≡ inEnd p (listed sync at 0 (drop at ws))
 
 module _ (sync t : ℕ) (ws : List ℕ) where
-  pub none-sifted : Sifted sync t ws 0 Nowhere
-  none-sifted = record { within = omega arith; answers = later-none (inScience sync ws t) }
+  pub none-sifted : Sifted sync t ws 0 (record { found = Nowhere; end = false })
+  unfolding scienceEnd
+  none-sifted = record { within = omega arith; answers = later-none (inScience sync ws t); mark = refl; rest = λ p h. refl }
 
-  pub chunk-sifted : {at : ℕ} {last : Sought} → Sifted sync t ws at last → {e : Entry} {n : ℕ} → Next sync ws at e n
-      → {found now : Sought} → found ≡ lastWhere (soundOf ws t) (chunkPlaces e) → now ≡ later found last → Sifted sync t ws n now
-  unfolding placesOf
-  chunk-sifted {at} {last} s {e} {n} k {found} {now} ef en =
-      let f = soundOf ws t in
-      let ahead : Sought = lastWhere f (placesOf (listed sync n 0 (drop n ws))) in
-      let from-here : lastWhere f (placesOf (listed sync at 0 (drop at ws))) ≡ later ahead (lastWhere f (chunkPlaces e)) =
-      ap (λ (es : List Entry). lastWhere f (placesOf es)) (k .lists) ∙ last-append f (chunkPlaces e) (placesOf (listed sync n 0 (drop n ws))) in
-      record {
-        within = k .within;
-        answers =
-            ap (later ahead) (en ∙ ap (λ (x : Sought). later x last) ef)
-            ∙ sym (later-assoc ahead (lastWhere f (chunkPlaces e)) last)
-            ∙ ap (λ (x : Sought). later x last) (sym from-here)
-            ∙ s .answers;
-      }
+  module _ {at : ℕ} {last : Marked} (s : Sifted sync t ws at last) {e : Entry} {n : ℕ} (k : Next sync ws at e n) where
+    abbrev others : List Entry
+    others = listed sync n 0 (drop n ws)
 
-  pub all-sifted : {at : ℕ} {last : Sought} → Sifted sync t ws at last → Last sync ws at → last ≡ inScience sync ws t
+    -- the mark of a place in the chunk is the chunk's
+    chunk-mark : (p : ℕ) → e .position .0 ≤ p → p < past e → inEnd p (reading sync ws) ≡ e .end
+    chunk-mark p a b =
+        s .rest p (omega (arith, a, k .ahead)) ∙ ap (inEnd p) (k .lists)
+        ∙ inside-first e p others a b (none-before sync n 0 (drop n ws) p (omega (arith, b, k .end)))
+
+    -- what was found so far: in the chunk, or else before it
+    abbrev so-far : Sought → Marked
+    so-far found = laterMarked (record { found = found; end = e .end }) last
+
+    so-far-found : (found : Sought) → so-far found .found ≡ later found (last .found)
+    so-far-found (At p) = refl
+    so-far-found Nowhere = refl
+
+    so-far-mark : (found : Sought) → found ≡ lastWhere (soundOf ws t) (chunkPlaces e) → so-far found .end ≡ scienceEnd sync ws (so-far found .found)
+    unfolding scienceEnd
+    so-far-mark (At p) ef = let b = chunk-bounds (soundOf ws t) e (p .0) (sym ef) in sym (chunk-mark (p .0) (b .0) (b .1))
+    so-far-mark Nowhere ef = s .mark
+
+    pub chunk-sifted : {found : Sought} → found ≡ lastWhere (soundOf ws t) (chunkPlaces e)
+        → {now : Marked} → now ≡ laterMarked (record { found = found; end = e .end }) last → Sifted sync t ws n now
+    unfolding placesOf
+    chunk-sifted {found} ef en =
+        let f = soundOf ws t in
+        let ahead : Sought = lastWhere f (placesOf others) in
+        let from-here : lastWhere f (placesOf (listed sync at 0 (drop at ws))) ≡ later ahead (lastWhere f (chunkPlaces e)) =
+        ap (λ (es : List Entry). lastWhere f (placesOf es)) (k .lists) ∙ last-append f (chunkPlaces e) (placesOf others) in
+        record {
+          within = k .within;
+          answers =
+              ap (later ahead) (ap (λ (m : Marked). m .found) en ∙ so-far-found found ∙ ap (λ (x : Sought). later x (last .found)) ef)
+              ∙ sym (later-assoc ahead (lastWhere f (chunkPlaces e)) (last .found))
+              ∙ ap (λ (x : Sought). later x (last .found)) (sym from-here)
+              ∙ s .answers;
+          mark = ap (λ (m : Marked). m .end) en ∙ so-far-mark found ef ∙ ap (λ (m : Marked). scienceEnd sync ws (m .found)) (sym en);
+          rest = λ p h.
+              s .rest p (omega (arith, h, k .end, k .ahead)) ∙ ap (inEnd p) (k .lists) ∙ past-first e p others (omega (arith, h, k .end));
+        }
+
+  pub all-sifted : {at : ℕ} {last : Marked} → Sifted sync t ws at last → Last sync ws at
+      → (last .found ≡ inScience sync ws t) × (last .end ≡ scienceEnd sync ws (inScience sync ws t))
   unfolding placesOf lastWhere
-  all-sifted {at} {last} s n = ap (λ (es : List Entry). later (lastWhere (soundOf ws t) (placesOf es)) last) (sym (n .lists)) ∙ s .answers
+  all-sifted {at} {last} s n =
+      let all : last .found ≡ inScience sync ws t =
+      ap (λ (es : List Entry). later (lastWhere (soundOf ws t) (placesOf es)) (last .found)) (sym (n .lists)) ∙ s .answers in
+      (all, s .mark ∙ ap (scienceEnd sync ws) all)

@@ -26,6 +26,12 @@ legal-size = determined calls.legalSize (λ κs a. tt) λ κs a x e p. p
 pub check : Determined calls.check
 check = determined calls.check (λ κs a. tt) λ κs a x e p. p
 
+pub is-chunk : Determined calls.isChunk
+is-chunk = determined calls.isChunk (λ κs a. tt) λ κs a x e p. p
+
+pub is-at-end : Determined calls.isAtEnd
+is-at-end = determined calls.isAtEnd (λ κs a. tt) λ κs a x e p. p
+
 pub next : Determined calls.next
 next = determined calls.next (λ κs a. tt) λ κs a x e p. p
 

@@ -1,6 +1,7 @@
 -- Each contract is the tie itself; each refusal is the first arm of `answer`, and the number stands in both arms.
 use Prim.Native.Nat.{ℕ}
 use mathlib.Core.Path.{_≡_, refl, ap, _∙_}
+use mathlib.Core.Bool.{false}
 use mathlib.Core.List.{List, []}
 use denote.Ref.{now}
 use Rattle.base.specs.Refusal.{settled}
@@ -64,7 +65,7 @@ last-place =
     λ κs a. answer-number (λ (x : Place). x .refusal) _ _ _ refl (λ z. newest-accepted _ _ _ _)
 
 -- where nothing is shown, no part of a recording is
-no-part : (v : ℕ) (science health : List ℕ) → last.partAt (last.place v 0 0) science health ≡ []
+no-part : (v : ℕ) (science health : List ℕ) → last.partAt (last.place v 0 0 false) science health ≡ []
 unfolding last.partAt
 no-part v science health = refl
 

@@ -1,5 +1,6 @@
 -- The functions of `chunk`, `chunk_reading`, `chunk_writing` and `chunk_outline`: the contract, what the caller sees, and the definition that says it.
 use Prim.Native.Nat.{ℕ}
+use mathlib.Core.Bool.{false}
 use mathlib.Core.Option.{none, some}
 use mathlib.Core.List.{List, []}
 use lib.ListN.{length, drop}
@@ -46,7 +47,19 @@ legalSize =
 abbrev pub check : Function
 check =
     replies chunk.header.check.ended chunk.header.check.Reads.Asked chunk.header.check.Reads.Post
-    λ κs (words, (sync, (at, _))). header.checkOf (header.confirmed sync (drop (at .0) (now words)))
+    λ κs (words, (sync, (at, _))). header.checkAt sync (drop (at .0) (now words))
+
+-- `chunk::header::is_chunk`
+abbrev pub isChunk : Function
+isChunk =
+    replies chunk.header.is_chunk.ended chunk.header.is_chunk.Reads.Asked chunk.header.is_chunk.Reads.Post
+    λ κs (check, _). header.isChunk check
+
+-- `chunk::header::is_at_end`
+abbrev pub isAtEnd : Function
+isAtEnd =
+    replies chunk.header.is_at_end.ended chunk.header.is_at_end.Reads.Asked chunk.header.is_at_end.Reads.Post
+    λ κs (check, _). header.isAtEnd check
 
 -- `chunk::search::next`
 abbrev pub next : Function
@@ -74,7 +87,7 @@ survey =
     record {
       defined = counting.surveyReply sync (now recording);
       causes = counting.surveyCauses (now recording);
-      refused = λ v. counting.surveyed v 0 0;
+      refused = λ v. counting.surveyed v 0 0 false;
       number = some λ x. x .refusal;
     }
 
@@ -92,7 +105,7 @@ at =
     record {
       defined = place.atReply sync (now recording) (p .0);
       causes = place.atCauses sync (now recording) (p .0);
-      refused = λ v. place.heading v 0 0 0;
+      refused = λ v. place.heading v 0 0 0 false;
       number = some λ x. x .refusal;
     }
 

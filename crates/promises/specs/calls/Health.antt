@@ -1,6 +1,7 @@
 -- The functions of `health`, `health_observation`, `health_checksums`, `health_upsets` and `health_last`: the contract, what the caller sees, and the
 -- definition that says it.
 use Prim.Native.Nat.{ℕ}
+use mathlib.Core.Bool.{false}
 use mathlib.Core.Option.{none, some}
 use mathlib.Core.List.{List, []}
 use lib.ListN.{length}
@@ -110,7 +111,7 @@ lastPlace =
     record {
       defined = lastPlaceReply sync (now science) (now health) type;
       causes = lastCauses sync (now science) (now health) type;
-      refused = λ v. place v 0 0;
+      refused = λ v. place v 0 0 false;
       number = some λ x. x .refusal;
     }
 

@@ -1,6 +1,7 @@
 -- The function of `chunk_register`. The checker makes no plain claims of a contract where a slice of structs is lent, so they are read here off the
 -- contract's own clauses, by the rules by which the checker reads every other.
 use mathlib.Core.Path.{refl}
+use mathlib.Core.Bool.{false}
 use mathlib.Core.Option.{some}
 use mathlib.Core.List.{List}
 use lib.ListN.{length}
@@ -49,6 +50,6 @@ list =
     record {
       defined = (listReply sync (now recording) (length (now register)), listRoom sync (now recording) (now register));
       causes = listCauses sync (now recording) (length (now register));
-      refused = λ v. (surveyed v 0 0, now register);
+      refused = λ v. (surveyed v 0 0 false, now register);
       number = some λ (x, _). x .refusal;
     }

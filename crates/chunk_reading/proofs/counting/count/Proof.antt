@@ -1,20 +1,21 @@
 -- `chunk_reading::counting::count` meets its contract: the loop of `Counted`.
-use mathlib.Core.Path.{sym, ap₂, _∙_}
-use Prim.Native.Nat.{_-_}
+use mathlib.Core.Path.{sym, ap, ap₂, _∙_}
+use Prim.Native.Nat.{ℕ, _-_}
 use native.Mathlib.Omega.{arith}
 use lib.ListN.{length}
 use borrow.Author.Needs.{needs}
 use Rattle.chunk_reading.specs.Counting.{counts}
+use Rattle.chunk.specs.Reading.{reading, skipped}
 use Rattle.chunk.proofs.Steps.{Next, Last, stepped, ended}
-use Rattle.chunk_reading.proofs.counting.Counted.{Counted, none-counted, chunk-counted, all-chunks, all-skipped}
+use Rattle.chunk_reading.proofs.counting.Counted.{Counted, none-counted, chunk-counted, all-chunks, all-skipped, any-end}
 use Rattle.chunk_reading.proofs.counting.count.Statement.{statement}
 use Rattle.chunk_reading.proofs.counting.count.Tie as tie
 
 abbrev Inv-loop : tie.InvT-loop
-Inv-loop words sync chunks₀ skipped₀ at₀ chunks skipped at = Counted sync words chunks skipped at
+Inv-loop words sync chunks₀ skipped₀ end₀ at₀ chunks skipped end at = Counted sync words chunks skipped end at
 
 abbrev μ-loop : tie.MeasureT-loop
-μ-loop words sync chunks₀ skipped₀ at₀ chunks skipped at = length words - at
+μ-loop words sync chunks₀ skipped₀ end₀ at₀ chunks skipped end at = length words - at
 
 -- the chunk that was found
 step : (c : tie.After-known-told Inv-loop μ-loop)
@@ -41,7 +42,9 @@ returns : tie.Need-returns Inv-loop μ-loop
 returns c =
     let l = c .before .before .before in
     let a = l .before .before .args in
-    ap₂ counts (all-chunks (a .sync) (a .words .now) _ _ _ (l .loop .inv) (last c)) (all-skipped (a .sync) (a .words .now) _ _ _ (l .loop .inv) (last c))
+    ap₂ (λ (n m : ℕ). counts n m (l .loop .end)) (all-chunks (a .sync) (a .words .now) _ _ _ _ (l .loop .inv) (last c))
+    (all-skipped (a .sync) (a .words .now) _ _ _ _ (l .loop .inv) (last c))
+    ∙ ap (counts (length (reading (a .sync) (a .words .now))) (skipped (a .sync) (a .words .now))) (any-end _ _ _ _ _ _ (l .loop .inv) (last c))
 
 add-chunks : tie.Need-add-chunks Inv-loop μ-loop
 add-chunks c = record { fits = omega (arith, step c .ahead, step c .within, step c .end) }
@@ -53,10 +56,10 @@ add-skipped : tie.Need-add-skipped Inv-loop μ-loop
 add-skipped c = record { fits = omega (arith, step c .ahead, step c .within, step c .end) }
 
 loop-less : tie.Need-loop-less Inv-loop μ-loop
-loop-less c = omega (arith, step c .ahead, step c .within, step c .end)
+loop-less c = omega (arith, step (c .before) .ahead, step (c .before) .within, step (c .before) .end)
 
 loop-again : tie.Need-loop-again Inv-loop μ-loop
-loop-again c = chunk-counted _ _ _ _ _ (c .before .before .before .before .loop .inv) _ _ (step c)
+loop-again c = chunk-counted _ _ _ _ _ _ (c .before .before .before .before .before .loop .inv) _ _ (step (c .before))
 
 pub count-spec : {M : Type 1} → statement M
 count-spec =

@@ -15,7 +15,7 @@ returns-2 : tie.Need-returns-2
 unfolding answer
 returns-2 c =
     let e = c .before .before in
-    simp (sym (e .before .too-long .ensures) ∙ e .if1 .left) (ap (λ (n : Counts). surveyed 0 (n .chunks) (n .skipped .0)) (c .before .count .ensures))
+    simp (sym (e .before .too-long .ensures) ∙ e .if1 .left) (ap (λ (n : Counts). surveyed 0 (n .chunks) (n .skipped .0) (n .end)) (c .before .count .ensures))
 
 pub survey-spec : {M : Type 1} → statement M
 survey-spec = tie.close (tie.spec (λ c κs. search needs) (λ c κs. search needs) returns (λ c κs. search needs) returns-2)

@@ -1,6 +1,6 @@
--- `chunk_reading::place::at` meets its contract: an accepted place has a chunk, whose header word lies within the recording.
+-- `chunk_reading::place::at` meets its contract: an accepted place has a chunk, which lies within the recording; the place past it tells the mark.
 use mathlib.Core.Path.{sym, ap, _∙_}
-use Prim.Native.Nat.{_+_, _≤_}
+use Prim.Native.Nat.{ℕ, _+_, _≤_}
 use native.Mathlib.Omega.{arith}
 use lib.ListN.{length, getD}
 use borrow.Author.Needs.{needs}
@@ -26,20 +26,29 @@ returns c =
     ∙ ap refused (t .before .judge .ensures)
     ∙ refused-at (a .sync) (a .recording .now) (a .place .0) (λ z. t .if1 .taken (t .before .judge .ensures ∙ z))
 
-add-heading-of : tie.Need-add-heading-of
-add-heading-of c = record { fits = omega (arith, inside c) }
+add-word : tie.Need-add-word
+add-word c = record { fits = omega (arith, inside c) }
 
-mul-heading-of : tie.Need-mul-heading-of
-mul-heading-of c = record { fits = omega (arith, inside c) }
+mul-word : tie.Need-mul-word
+mul-word c = record { fits = omega (arith, inside c) }
 
-shared-slice-read-heading-of : tie.Need-shared-slice-read-heading-of
-shared-slice-read-heading-of c = omega (arith, inside (c .before))
+shared-slice-read-word : tie.Need-shared-slice-read-word
+shared-slice-read-word c = omega (arith, inside (c .before))
+
+add-past : tie.Need-add-past
+add-past c = record { fits = omega (arith, inside (c .before .before)) }
+
+add-past-2 : tie.Need-add-past-2
+add-past-2 c = record { fits = omega (arith, inside (c .before .before .before .before), c .before .size-of .ensures) }
 
 returns-2 : tie.Need-returns-2
 returns-2 c =
-    let e = c .before .before in
+    let n = c .before .before in
+    let e = n .before .before .before in
     let a = e .before .before .before .args in
-    c .heading-of .ensures ∙ accepted-at (a .sync) (a .recording .now) (a .place .0) (sym (e .before .judge .ensures) ∙ e .if1 .left)
+    c .heading-of .ensures
+    ∙ accepted-at (a .sync) (a .recording .now) (a .place .0) (sym (e .before .judge .ensures) ∙ e .if1 .left)
+    (a .place .0 + 2 + n .size-of .result .0) (ap (λ (m : ℕ). a .place .0 + 2 + m) (n .size-of .ensures))
 
 pub at-spec : {M : Type 1} → statement M
 at-spec =
@@ -48,8 +57,11 @@ at-spec =
     (λ c κs. search needs)
     (λ c κs. search needs)
     returns
-    add-heading-of
-    mul-heading-of
-    shared-slice-read-heading-of
+    add-word
+    mul-word
+    shared-slice-read-word
+    add-past
+    (λ c κs. search needs)
+    add-past-2
     (λ c κs. search needs)
     returns-2)

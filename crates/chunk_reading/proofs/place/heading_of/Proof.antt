@@ -12,9 +12,10 @@ returns c =
     let k = c .before .before .kind-of in
     let m = c .before .camera-of in
     let n = c .size-of in
-    ap (λ (x : ℕ). heading 0 x (m .result) (n .result .0)) (k .ensures)
-    ∙ ap (λ (x : ℕ). heading 0 (kind (c .before .before .before .args .word)) x (n .result .0)) (m .ensures)
-    ∙ ap (heading 0 (kind (c .before .before .before .args .word)) (camera (c .before .before .before .args .word))) (n .ensures)
+    let a = c .before .before .before .args in
+    ap (λ (x : ℕ). heading 0 x (m .result) (n .result .0) (a .end)) (k .ensures)
+    ∙ ap (λ (x : ℕ). heading 0 (kind (a .word)) x (n .result .0) (a .end)) (m .ensures)
+    ∙ ap (λ (x : ℕ). heading 0 (kind (a .word)) (camera (a .word)) x (a .end)) (n .ensures)
 
 pub heading-of-spec : {M : Type 1} → statement M
 heading-of-spec = tie.close (tie.spec (λ c κs. search needs) (λ c κs. search needs) (λ c κs. search needs) returns)

@@ -1,5 +1,5 @@
--- `frame::pieces::frame_there` meets its contract: the frame is measured over the words from its first on, and whether it is complete is a question about
--- the place where it ends.
+-- `frame::pieces::frame_there` meets its contract: the frame is measured over the words from its first on, and what closes it is a question about the
+-- place where it ends.
 use mathlib.Core.Path.{_≡_, ap, ap₂, _∙_}
 use mathlib.Core.Bool.{true}
 use mathlib.Core.List.{List}
@@ -74,15 +74,17 @@ part-closes-start c = let w = end-within (c .before .before .before) in search n
 
 add-past : tie.Need-add-past
 add-past c =
-    let m = c .before .before .before .before .before in
+    let m = c .before .before .before .before .before .before .before in
     omega (arith, end-within m, part-length (s m), within (s m))
 
 returns : tie.Need-returns
 returns c =
-    let m = c .before .before .before .before .before in
+    let k = c .before .before in
+    let m = k .before .before .before .before .before in
     let a = s m .args in
     ap₂ (λ (d : Description) (n : ℕ). Piece.Frame (a .place) d (record { 0 = a .place .0 + n }))
-    (described-by-reach (a .sync) (part (s m)) (starts-there (s m)) _ _ _ (m .measure .ensures) (c .before .before .camera-of .ensures) (c .closes .ensures)
+    (described-by-reach (a .sync) (part (s m)) (starts-there (s m)) _ _ _ _ _ (m .measure .ensures) (k .before .before .camera-of .ensures) (k .closes .ensures)
+    (c .before .is-chunk .ensures) (c .is-at-end .ensures)
     ∙ ap (described (a .sync)) (to-end (a .place .0) (ws (s m))))
     (end-there m ∙ ap (frameWords (a .sync)) (to-end (a .place .0) (ws (s m))))
 
@@ -101,6 +103,8 @@ frame-there-spec =
     sub-closes
     part-closes-start
     (λ c. search needs)
+    (λ c κs. search needs)
+    (λ c κs. search needs)
     (λ c κs. search needs)
     add-past
     returns)

@@ -57,7 +57,7 @@ returns-2 : tie.Need-returns-2 Inv-loop μ-loop
 returns-2 c =
     let i = c .before .before in
     let k = i .before .before .before in
-    ap (λ (n : ℕ). Piece.Stray (e k .position) (record { 0 = n })) (step k .end)
+    ap (λ (n : ℕ). Piece.Stray (e k) (record { 0 = n })) (step k .end)
     ∙ sym (stray-next (a k .args .sync) (a k .args .words .now) (l k .loop .at) (e k) (q k) (step k) (sym (i .before .kind-of .ensures) ∙ i .if1 .taken) (sym (c .before .starts .ensures) ∙ c .if2 .left))
     ∙ l k .loop .inv
 

@@ -1,15 +1,13 @@
--- `frame::shape::confirmed` meets its contract: the check's two answers.
-use mathlib.Core.Path.{sym, _∙_}
-use Rattle.chunk.proofs.Headers.{check-yes, check-no}
+-- `frame::shape::confirmed` meets its contract: the header check finds a chunk exactly where one is confirmed.
+use mathlib.Core.Path.{ap, _∙_}
+use Rattle.chunk.specs.Header.{isChunk}
+use Rattle.chunk.proofs.Headers.{check-chunk}
 use borrow.Author.Needs.{needs}
 use Rattle.frame.proofs.shape.confirmed.Statement.{statement}
 use Rattle.frame.proofs.shape.confirmed.Tie as tie
 
 returns : tie.Need-returns
-returns c = sym (check-yes _ (sym (c .before .before .check .ensures) ∙ c .enum-told .given .1))
-
-returns-2 : tie.Need-returns-2
-returns-2 c = sym (check-no _ (sym (c .before .before .check .ensures) ∙ c .enum-told2 .given .1))
+returns c = c .is-chunk .ensures ∙ ap isChunk (c .before .check .ensures) ∙ check-chunk _ _
 
 pub confirmed-spec : {M : Type 1} → statement M
-confirmed-spec = tie.close (tie.spec (λ c κs. search needs) (λ c. search needs) (λ c. search needs) returns returns-2)
+confirmed-spec = tie.close (tie.spec (λ c κs. search needs) (λ c κs. search needs) returns)

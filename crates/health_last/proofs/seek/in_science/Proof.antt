@@ -1,4 +1,4 @@
--- `health_last::seek::in_science` meets its contract: what is left of the reading, after what was found before, gives the answer.
+-- `health_last::seek::in_science` meets its contract: what is left of the reading, after what was found before with its mark, gives the answer.
 use mathlib.Core.Path.{sym, _∙_}
 use Prim.Native.Nat.{_-_}
 use native.Mathlib.Omega.{arith}

@@ -46,9 +46,10 @@ returns-2 c =
 add-at : tie.Need-add-at Inv-loop μ-loop
 add-at c =
     let b = c .before in
-    let l = b .before .before .before .before .before .before in
+    let k = b .before .before in
+    let l = k .before .before .before .before in
     let a = l .before .before .before .args in
-    record { fits = omega (arith, entry-fits (a .index .now) (l .loop .at) _ (sym (b .before .entry-stands .ensures) ∙ not-false _ (b .if1 .left))) }
+    record { fits = omega (arith, entry-fits (a .index .now) (l .loop .at) (k .before .found .given .0 .0) (sym (b .before .entry-stands .ensures) ∙ not-false _ (b .if1 .left))) }
 
 loop-less : tie.Need-loop-less Inv-loop μ-loop
 loop-less c = let k = c .before .before .before in omega (arith, step k .ahead, step k .within, step k .end)

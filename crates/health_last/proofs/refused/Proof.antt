@@ -1,0 +1,10 @@
+-- `health_last::refused` meets its contract: field by field.
+use mathlib.Core.Path.{refl}
+use Rattle.health_last.proofs.refused.Statement.{statement}
+use Rattle.health_last.proofs.refused.Tie as tie
+
+returns : tie.Need-returns
+returns c = refl
+
+pub refused-spec : {M : Type 1} → statement M
+refused-spec = tie.close (tie.spec returns)
