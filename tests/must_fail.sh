@@ -13,7 +13,7 @@ RELATION = r'`(?:[^`\s]*\.)?(?:_[≤<≡]_|_&&_|_\|\|_|not|is(?:Le|Lt|Eq)|leb|lt
 # a step of the proof's walk through the code
 STEP = r'`[^`\s]*\.Lts\.[A-Z][\w-]*`'
 UNFIT = [
-    r'has no `Need-',
+    r'has no `[A-Z][\w-]*`',
     r'has no field `',
     r'binders?, but its type has room',
     r'expected type `[^`\s]*Need-[^`]*`,? but this has type `[^`\s]*Need-',

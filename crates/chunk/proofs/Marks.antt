@@ -1,6 +1,6 @@
 -- The mark of an entry follows from its position, its header word and the recording's length: at each place that length is the place and the words left.
 use mathlib.Core.Path.{_≡_, ap, _∙_}
-use mathlib.Core.Bool.{Bool, true, false}
+use mathlib.Core.Bool.{true, false}
 use mathlib.Core.List.{List, [], _∷_}
 use Prim.Native.Nat.{ℕ, zero, suc, _+_}
 use native.Mathlib.Omega.{arith}
@@ -9,7 +9,7 @@ use lib.Dec.{eqb}
 use Rattle.base.proofs.Booleans.{by-test}
 use Rattle.chunk.specs.declared.Entry.{Entry}
 use Rattle.chunk.specs.Header.{size, span, confirmed, atEnd}
-use Rattle.chunk.specs.Reading.{entry, listed, reading}
+use Rattle.chunk.specs.Reading.{listed, reading}
 use Rattle.chunk.proofs.Headers.{end-shifted}
 use Rattle.chunk.proofs.Steps.{past, listed-one}
 

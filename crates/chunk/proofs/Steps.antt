@@ -64,7 +64,7 @@ listed-one sync at w ws true e =
 listed-one sync at w ws false e =
     ap (λ (b : Bool). elim b as (λ x. List Entry) [ true ↦ entry at (getD ws 0 0) (atEnd (w ∷ ws)) ∷ listed sync (suc at) (suc (size (getD ws 0 0))) ws | false ↦ listed sync (suc at) 0 ws ]) e
 
-skipped-one : (sync : ℕ) (w : ℕ) (ws : List ℕ) (b : Bool) → confirmed sync (w ∷ ws) ≡ b
+pub skipped-one : (sync : ℕ) (w : ℕ) (ws : List ℕ) (b : Bool) → confirmed sync (w ∷ ws) ≡ b
     → skippedFrom sync 0 (w ∷ ws) ≡ cond b (skippedFrom sync (suc (size (getD ws 0 0))) ws) (suc (skippedFrom sync 0 ws))
 unfolding skippedFrom
 skipped-one sync w ws true e =
@@ -78,7 +78,7 @@ unfolding found
 found-one sync at w ws true e = ap (λ (b : Bool). elim b as (λ x. Found) [ true ↦ chunkAt at (getD ws 0 0) (atEnd (w ∷ ws)) | false ↦ found sync (suc at) ws ]) e
 found-one sync at w ws false e = ap (λ (b : Bool). elim b as (λ x. Found) [ true ↦ chunkAt at (getD ws 0 0) (atEnd (w ∷ ws)) | false ↦ found sync (suc at) ws ]) e
 
-left-one : (sync n : ℕ) (w : ℕ) (ws : List ℕ) (b : Bool) → confirmed sync (w ∷ ws) ≡ b
+pub left-one : (sync n : ℕ) (w : ℕ) (ws : List ℕ) (b : Bool) → confirmed sync (w ∷ ws) ≡ b
     → leftAt sync 0 (w ∷ ws) (suc n) ≡ leftAt sync (cond b (suc (size (getD ws 0 0))) 0) ws n
 unfolding leftAt
 left-one sync n w ws b e = ap (λ (x : Bool). leftAt sync (cond x (suc (size (getD ws 0 0))) 0) ws n) e

@@ -1,6 +1,6 @@
 -- FORMAT, "Chunks": the header word, legal headers, and confirmation.
 use Prim.Native.Nat.{ℕ, suc, _+_, _/_, _%_}
-use mathlib.Core.Bool.{Bool, true, false, cond, _&&_, _||_}
+use mathlib.Core.Bool.{Bool, false, cond, _&&_, _||_}
 use mathlib.Core.List.{List, [], _∷_}
 use lib.ListN.{length, getD, drop}
 use lib.Dec.{leb, ltb, eqb}
@@ -65,7 +65,7 @@ atEnd ws = eqb (span (getD ws 1 0)) (length ws)
 abbrev pub chunkCheck : Bool → Check
 chunkCheck end = cond end Check.AtEnd Check.Followed
 
--- the header check
+-- The header check: one of these two where a chunk is confirmed at the front of these words, else not a chunk.
 unfoldable pub checkAt : ℕ → List ℕ → Check
 checkAt sync ws = cond (confirmed sync ws) (chunkCheck (atEnd ws)) Check.NotAChunk
 

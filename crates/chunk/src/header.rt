@@ -1,4 +1,4 @@
-// The header: its two words, its fields, and the check whether a chunk is confirmed at a place.
+// The header: its two words, its fields, and the check of what stands at a place.
 use crate::Check;
 use base::Words;
 use base::number;

@@ -19,7 +19,7 @@ use Rattle.chunk.proofs.Headers.{headed-by-words, headed-inside, confirmed-by-e
 use Rattle.chunk.proofs.Steps.{stepped, ended}
 use Rattle.chunk_laws.specs.Answers.{HeaderAt, FollowedAt, EndingAt, checked, CheckTells, FindsFirst, SearchTells}
 use Rattle.chunk_laws.specs.Ends.{ThreeWays}
-use Rattle.chunk_laws.proofs.Ends.{three-ways}
+use Rattle.chunk_laws.proofs.Ends.{checked-three-ways}
 
 -- ---- the header check
 
@@ -50,7 +50,7 @@ module _ (sync : ℕ) (ws : List ℕ) where
     end-there = drop-drop (span (getD (drop p ws) 1 0)) p ws ∙ ap (λ (w : ℕ). drop (p + span w) ws) word-there
 
     ways : ThreeWays sync (drop p ws)
-    ways = three-ways sync (drop p ws)
+    ways = checked-three-ways sync (drop p ws)
 
     header-of : confirmed sync (drop p ws) ≡ true → HeaderAt sync ws p
     unfolding confirmed
@@ -80,11 +80,11 @@ check-tells sync ws p =
       onlyFollowed = only-followed sync ws p;
       ending = λ h. t .ending .1 (chunk-ending sync ws p h, omega (arith, h .0 .0, h .1, length-drop p ws, ap size (word-there sync ws p)));
       onlyEnding = only-ending sync ws p;
-      elsewhere = λ f e. by-number (checked sync ws p) refl (t .most) (λ n. f (only-followed sync ws p n)) (λ n. e (only-ending sync ws p n));
+      elsewhere = λ f e. by-number (checked sync ws p) (t .most) (λ n. f (only-followed sync ws p n)) (λ n. e (only-ending sync ws p n));
     }
   where
-    by-number : (n : ℕ) → checked sync ws p ≡ n → n ≤ 2 → (n ≡ 1 → ⊥) → (n ≡ 2 → ⊥) → n ≡ 0
-    by-number n q l one two = elim (decLt n 1) as (λ x. n ≡ 0) [
+    by-number : (n : ℕ) → n ≤ 2 → (n ≡ 1 → ⊥) → (n ≡ 2 → ⊥) → n ≡ 0
+    by-number n l one two = elim (decLt n 1) as (λ x. n ≡ 0) [
       | yes h ↦ omega arith
       | no h ↦ elim (decLt n 2) as (λ x. n ≡ 0) [
         | yes k ↦ absurd (one (omega arith))

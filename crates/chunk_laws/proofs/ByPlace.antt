@@ -13,29 +13,10 @@ use borrow.Author.Tests.{eqb-true, le-leb, lt-leb}
 use Rattle.base.proofs.Booleans.{and-left, and-right, by-test}
 use Rattle.chunk.specs.declared.Entry.{Entry}
 use Rattle.chunk.specs.Header.{size, headed, confirmed, atEnd}
-use Rattle.chunk.specs.Reading.{entry, listed, reading, skippedFrom, leftAt, listedAt}
-use Rattle.chunk.proofs.Steps.{listed-at-yes}
+use Rattle.chunk.specs.Reading.{entry, listed, reading, leftAt, listedAt}
+use Rattle.chunk.proofs.Steps.{listed-one, left-one, listed-at-yes}
 use Rattle.chunk_laws.specs.Listed.{Among}
 use Rattle.chunk_laws.specs.Resync.{from, moved}
-
--- ---- one word read where no chunk is in hand, by whether one is confirmed there
-
-pub list-step : (sync at w : ℕ) (ws : List ℕ) (b : Bool) → confirmed sync (w ∷ ws) ≡ b → listed sync at 0 (w ∷ ws)
-    ≡ cond b (entry at (getD ws 0 0) (atEnd (w ∷ ws)) ∷ listed sync (suc at) (suc (size (getD ws 0 0))) ws) (listed sync (suc at) 0 ws)
-unfolding listed
-list-step sync at w ws true e = rw (e, listed)
-list-step sync at w ws false e = rw (e, listed)
-
-pub skip-step : (sync w : ℕ) (ws : List ℕ) (b : Bool) → confirmed sync (w ∷ ws) ≡ b
-    → skippedFrom sync 0 (w ∷ ws) ≡ cond b (skippedFrom sync (suc (size (getD ws 0 0))) ws) (suc (skippedFrom sync 0 ws))
-unfolding skippedFrom
-skip-step sync w ws true e = rw (e, skippedFrom)
-skip-step sync w ws false e = rw (e, skippedFrom)
-
-pub left-step : (sync p w : ℕ) (ws : List ℕ) (b : Bool) → confirmed sync (w ∷ ws) ≡ b
-    → leftAt sync 0 (w ∷ ws) (suc p) ≡ leftAt sync (cond b (suc (size (getD ws 0 0))) 0) ws p
-unfolding leftAt
-left-step sync p w ws b e = ap (λ (x : Bool). leftAt sync (cond x (suc (size (getD ws 0 0))) 0) ws p) e
 
 -- where the chunk in hand ends none is left
 pub left-end : (sync left : ℕ) (ws : List ℕ) → leftAt sync left ws left ≡ 0
@@ -62,8 +43,8 @@ from-start sync p at left [] h = refl
 from-start sync p at (suc left) (w ∷ ws) h = from-start sync p (suc at) left ws (omega arith)
 from-start sync p at zero (w ∷ ws) h =
     by-test (confirmed sync (w ∷ ws))
-    (λ e. rw (list-step sync at w ws true e) (from-past p (entry at (getD ws 0 0) (atEnd (w ∷ ws))) (listed sync (suc at) (suc (size (getD ws 0 0))) ws) h))
-    (λ e. rw (list-step sync at w ws false e) (from-start sync p (suc at) 0 ws (omega arith)))
+    (λ e. rw (listed-one sync at w ws true e) (from-past p (entry at (getD ws 0 0) (atEnd (w ∷ ws))) (listed sync (suc at) (suc (size (getD ws 0 0))) ws) h))
+    (λ e. rw (listed-one sync at w ws false e) (from-start sync p (suc at) 0 ws (omega arith)))
 
 from-at : (sync at left p : ℕ) (ws : List ℕ) → from (at + p) (listed sync at left ws) ≡ listed sync (at + p) (leftAt sync left ws p) (drop p ws)
 unfolding from listed leftAt
@@ -72,10 +53,10 @@ from-at sync at left (suc p) [] = refl
 from-at sync at (suc left) (suc p) (w ∷ ws) = rw (add-suc at p, ← suc-add at p) (from-at sync (suc at) left p ws)
 from-at sync at zero (suc p) (w ∷ ws) =
     rw (add-suc at p, ← suc-add at p) (by-test (confirmed sync (w ∷ ws))
-    (λ e. rw (list-step sync at w ws true e, left-step sync p w ws true e)
+    (λ e. rw (listed-one sync at w ws true e, left-one sync p w ws true e)
     (from-before (suc at + p) (entry at (getD ws 0 0) (atEnd (w ∷ ws))) (listed sync (suc at) (suc (size (getD ws 0 0))) ws) (omega arith)
     ∙ from-at sync (suc at) (suc (size (getD ws 0 0))) p ws))
-    (λ e. rw (list-step sync at w ws false e, left-step sync p w ws false e) (from-at sync (suc at) 0 p ws)))
+    (λ e. rw (listed-one sync at w ws false e, left-one sync p w ws false e) (from-at sync (suc at) 0 p ws)))
 
 pub reading-from : (sync p : ℕ) (ws : List ℕ) → from p (reading sync ws) ≡ listed sync p (leftAt sync 0 ws p) (drop p ws)
 reading-from sync p ws = rw (zero-add p) at (from-at sync 0 0 p ws)
@@ -88,9 +69,9 @@ listed-moved sync n at left [] = refl
 listed-moved sync n at (suc left) (w ∷ ws) = rw (← add-suc n at) (listed-moved sync n (suc at) left ws)
 listed-moved sync n at zero (w ∷ ws) =
     by-test (confirmed sync (w ∷ ws))
-    (λ e. rw (list-step sync (n + at) w ws true e, list-step sync at w ws true e, ← add-suc n at)
+    (λ e. rw (listed-one sync (n + at) w ws true e, listed-one sync at w ws true e, ← add-suc n at)
     (ap (λ (l : List Entry). entry (n + at) (getD ws 0 0) (atEnd (w ∷ ws)) ∷ l) (listed-moved sync n (suc at) _ ws)))
-    (λ e. rw (list-step sync (n + at) w ws false e, list-step sync at w ws false e, ← add-suc n at) (listed-moved sync n (suc at) 0 ws))
+    (λ e. rw (listed-one sync (n + at) w ws false e, listed-one sync at w ws false e, ← add-suc n at) (listed-moved sync n (suc at) 0 ws))
 
 -- ---- a chunk is listed at a place exactly if its entry is in the list
 
@@ -115,7 +96,7 @@ place-listed sync p ws h =
   where
     front : (at : ℕ) (vs : List ℕ) → confirmed sync vs ≡ true → Among (entry at (getD vs 1 0) (atEnd vs)) (listed sync at 0 vs)
     front at [] e = absurd (not-empty sync e)
-    front at (v ∷ vs) e = rw (list-step sync at v vs true e) (inl refl)
+    front at (v ∷ vs) e = rw (listed-one sync at v vs true e) (inl refl)
 
 -- what an entry of the list is: at its place no words of another chunk are left, and a chunk is confirmed
 record Placed (sync at left : ℕ) (ws : List ℕ) (e : Entry) : Type 0 where
@@ -137,18 +118,18 @@ placed sync at (suc left) (w ∷ ws) e h =
     }
 placed sync at zero (w ∷ ws) e h =
     by-test (confirmed sync (w ∷ ws))
-    (λ c. elim (rw (list-step sync at w ws true c) at h) as (λ x. Placed sync at 0 (w ∷ ws) e) [
+    (λ c. elim (rw (listed-one sync at w ws true c) at h) as (λ x. Placed sync at 0 (w ∷ ws) e) [
       | inl z ↦ record { place = 0; named = z ∙ ap (λ (n : ℕ). entry n (getD ws 0 0) (atEnd (w ∷ ws))) (omega arith); free = refl; there = c }
       | inr z ↦ next true c (placed sync (suc at) _ ws e z)
     ])
-    (λ c. next false c (placed sync (suc at) 0 ws e (rw (list-step sync at w ws false c) at h)))
+    (λ c. next false c (placed sync (suc at) 0 ws e (rw (listed-one sync at w ws false c) at h)))
   where
     next : (b : Bool) → confirmed sync (w ∷ ws) ≡ b → Placed sync (suc at) (cond b (suc (size (getD ws 0 0))) 0) ws e → Placed sync at 0 (w ∷ ws) e
     next b c t =
         record {
           place = suc (t .place);
           named = t .named ∙ ap (λ (n : ℕ). entry n (getD (drop (t .place) ws) 1 0) (atEnd (drop (t .place) ws))) (omega arith);
-          free = left-step sync (t .place) w ws b c ∙ t .free;
+          free = left-one sync (t .place) w ws b c ∙ t .free;
           there = t .there;
         }
 

@@ -15,11 +15,10 @@ use Rattle.chunk.specs.declared.Entry.{Entry}
 use Rattle.chunk.specs.Header.{size, span, headed, ends, confirmed, atEnd, checkAt}
 use Rattle.chunk.specs.Reading.{entry, listed, reading}
 use Rattle.chunk.proofs.Headers.{headed-parts}
-use Rattle.chunk.proofs.Steps.{listed-on, past}
+use Rattle.chunk.proofs.Steps.{listed-on, listed-one, past}
 use Rattle.chunk.proofs.Marks.{Marked, reading-marked}
 use Rattle.chunk_laws.specs.Listed.{Among}
-use Rattle.chunk_laws.specs.Ends.{answered, CheckedThreeWays, ThreeWays, MarkFollowsFromPlace}
-use Rattle.chunk_laws.proofs.ByPlace.{list-step}
+use Rattle.chunk_laws.specs.Ends.{answered, ThreeWays, MarkFollowsFromPlace}
 
 -- ---- three ways
 
@@ -45,9 +44,9 @@ module _ (sync : ℕ) (ws : List ℕ) where
   unfolding atEnd
   words-left h = ne-eqb end (length ws) (λ e. omega (arith, headed-parts sync (drop end ws) h .1, length-drop end ws))
 
-  pub three-ways : ThreeWays sync ws
+  pub checked-three-ways : ThreeWays sync ws
   unfolding atEnd
-  three-ways =
+  checked-three-ways =
       by-test (confirmed sync ws)
       (λ c. by-test (atEnd ws) (at-the-end c) (followed-on c))
       (λ c.
@@ -79,9 +78,6 @@ module _ (sync : ℕ) (ws : List ℕ) where
             most = omega (arith, z);
           }
 
-pub checked-three-ways : CheckedThreeWays
-checked-three-ways = three-ways
-
 -- ---- the mark
 
 marked-among : (n : ℕ) (es : List Entry) → Marked n es → (e : Entry) → Among e es → e .end ≡ eqb (past e) n
@@ -106,8 +102,8 @@ last-listed sync at left [] before e after q m = absurd (omega (arith, ap length
 last-listed sync at (suc left) (w ∷ ws) before e after q m = last-listed sync (suc at) left ws before e after q m
 last-listed sync at zero (w ∷ ws) before e after q m =
     by-test (confirmed sync (w ∷ ws))
-    (λ c. by-first before (sym (list-step sync at w ws true c) ∙ q) (λ es r. last-listed sync (suc at) (suc (size (getD ws 0 0))) ws es e after r m))
-    (λ c. last-listed sync (suc at) 0 ws before e after (sym (list-step sync at w ws false c) ∙ q) m)
+    (λ c. by-first before (sym (listed-one sync at w ws true c) ∙ q) (λ es r. last-listed sync (suc at) (suc (size (getD ws 0 0))) ws es e after r m))
+    (λ c. last-listed sync (suc at) 0 ws before e after (sym (listed-one sync at w ws false c) ∙ q) m)
   where
     by-first : (before : List Entry) → entry at (getD ws 0 0) (atEnd (w ∷ ws)) ∷ listed sync (suc at) (suc (size (getD ws 0 0))) ws ≡ before ++ e ∷ after
         → ((es : List Entry) → listed sync (suc at) (suc (size (getD ws 0 0))) ws ≡ es ++ e ∷ after → after ≡ []) → after ≡ []

@@ -14,9 +14,9 @@ use Rattle.base.proofs.Booleans.{and-left, and-right, and-both, or-right}
 use Rattle.chunk.specs.declared.Entry.{Entry}
 use Rattle.chunk.specs.Header.{size, span, legal, headed, ends, confirmed, atEnd}
 use Rattle.chunk.specs.Reading.{entry, listed, skippedFrom, skipped, leftAt, listedAt}
-use Rattle.chunk.proofs.Steps.{listed-on, skipped-on, left-split, listed-at-yes}
+use Rattle.chunk.proofs.Steps.{listed-on, skipped-on, left-split, listed-one, skipped-one, left-one, listed-at-yes}
 use Rattle.chunk_laws.specs.Stretch.{Laid, words, offset, empty, whole, wholeRow}
-use Rattle.chunk_laws.proofs.ByPlace.{list-step, skip-step, left-step, left-end}
+use Rattle.chunk_laws.proofs.ByPlace.{left-end}
 
 -- ---- what a whole chunk has
 
@@ -93,7 +93,7 @@ lists-row sync at [] k = refl
 lists-row sync at (c ∷ cs) k =
     let t : whole c ≡ true = row-first c cs k in
     let n : suc (suc at) + size (c .header) ≡ at + span (c .header) = omega arith in
-    list-step sync at sync (c .header ∷ (c .payload ++ words sync cs)) true (row-confirmed sync c cs k)
+    listed-one sync at sync (c .header ∷ (c .payload ++ words sync cs)) true (row-confirmed sync c cs k)
     ∙ ap₂ (λ (m : Bool) (l : List Entry). entry at (c .header) m ∷ l) (row-mark sync c cs t)
     (rw (listed-on sync (suc (suc at)) (size (c .header)) (c .payload ++ words sync cs) (within-row sync c cs t), row-drop sync c cs t, n)
     (lists-row sync (at + span (c .header)) cs (row-rest c cs k)))
@@ -103,7 +103,7 @@ unfolding skippedFrom
 skips-none sync [] k = refl
 skips-none sync (c ∷ cs) k =
     let t : whole c ≡ true = row-first c cs k in
-    skip-step sync sync (c .header ∷ (c .payload ++ words sync cs)) true (row-confirmed sync c cs k)
+    skipped-one sync sync (c .header ∷ (c .payload ++ words sync cs)) true (row-confirmed sync c cs k)
     ∙ rw (skipped-on sync (size (c .header)) (c .payload ++ words sync cs) (within-row sync c cs t), row-drop sync c cs t)
     (skips-none sync cs (row-rest c cs k))
 
@@ -134,7 +134,7 @@ left-rest sync c cs t k =
     let inner : List ℕ = c .header ∷ (c .payload ++ words sync cs) in
     let n : ℕ = suc (size (c .header)) in
     left-split sync 0 (span (c .header)) k (words sync (c ∷ cs))
-    ∙ rw (left-step sync n sync inner true (row-confirmed sync c cs t) ∙ left-end sync n inner, row-drop sync c cs (row-first c cs t))
+    ∙ rw (left-one sync n sync inner true (row-confirmed sync c cs t) ∙ left-end sync n inner, row-drop sync c cs (row-first c cs t))
 
 left-row : (sync : ℕ) (before after : List Laid) → wholeRow (before ++ after) ≡ true
     → leftAt sync 0 (words sync (before ++ after)) (offset sync before) ≡ 0

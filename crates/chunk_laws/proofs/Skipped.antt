@@ -16,11 +16,11 @@ use Rattle.base.specs.Refusal.{verdict}
 use Rattle.base.proofs.Refused.{answer-yes}
 use Rattle.chunk.specs.Header.{size, span, confirmed}
 use Rattle.chunk.specs.Reading.{listed, reading, skippedFrom, skipped}
+use Rattle.chunk.proofs.Steps.{listed-one, skipped-one}
 use Rattle.chunk_reading.specs.declared.Survey.{Survey}
 use Rattle.chunk_reading.specs.Counting.{surveyCauses, refused}
 use Rattle.chunk_laws.specs.Outside.{covered, failing, outside, SkippedByPlace}
 use Rattle.chunk_laws.proofs.Accounting.{accounted}
-use Rattle.chunk_laws.proofs.ByPlace.{list-step, skip-step}
 
 -- no chunk that is listed from `at` on covers a place before it
 none-before : (sync p at left : ℕ) (ws : List ℕ) → p < at → covered (listed sync at left ws) p ≡ false
@@ -30,8 +30,8 @@ none-before sync p at (suc left) (w ∷ ws) h = none-before sync p (suc at) left
 none-before sync p at zero (w ∷ ws) h =
     let h′ : p < suc at = omega arith in
     by-test (confirmed sync (w ∷ ws))
-    (λ e. rw (list-step sync at w ws true e, lt-leb at p h) (none-before sync p (suc at) (suc (size (getD ws 0 0))) ws h′))
-    (λ e. rw (list-step sync at w ws false e) (none-before sync p (suc at) 0 ws h′))
+    (λ e. rw (listed-one sync at w ws true e, lt-leb at p h) (none-before sync p (suc at) (suc (size (getD ws 0 0))) ws h′))
+    (λ e. rw (listed-one sync at w ws false e) (none-before sync p (suc at) 0 ws h′))
 
 -- the places that are covered from `at` on, as a test
 abbrev Covers : (ℕ → Bool) → ℕ → ℕ → ℕ → List ℕ → Type 0
@@ -56,13 +56,13 @@ count-failing f sync at zero (w ∷ ws) k =
     by-test (confirmed sync (w ∷ ws))
     (λ e.
     at-covered f at (length ws)
-    (past at (omega arith) ∙ rw (list-step sync at w ws true e, le-leb at at (omega arith), lt-ltb at (at + span h) (omega arith)))
-    ∙ count-failing f sync (suc at) (suc (size h)) ws (λ p l. past p (omega arith) ∙ rw (list-step sync at w ws true e, le-leb at p (omega arith), n))
-    ∙ sym (skip-step sync w ws true e))
+    (past at (omega arith) ∙ rw (listed-one sync at w ws true e, le-leb at at (omega arith), lt-ltb at (at + span h) (omega arith)))
+    ∙ count-failing f sync (suc at) (suc (size h)) ws (λ p l. past p (omega arith) ∙ rw (listed-one sync at w ws true e, le-leb at p (omega arith), n))
+    ∙ sym (skipped-one sync w ws true e))
     (λ e.
-    at-missed f at (length ws) (past at (omega arith) ∙ rw (list-step sync at w ws false e) (none-before sync at (suc at) 0 ws (omega arith)))
-    ∙ ap suc (count-failing f sync (suc at) 0 ws (λ p l. past p (omega arith) ∙ rw (list-step sync at w ws false e, le-ltb p (suc at + 0) (omega arith))))
-    ∙ sym (skip-step sync w ws false e))
+    at-missed f at (length ws) (past at (omega arith) ∙ rw (listed-one sync at w ws false e) (none-before sync at (suc at) 0 ws (omega arith)))
+    ∙ ap suc (count-failing f sync (suc at) 0 ws (λ p l. past p (omega arith) ∙ rw (listed-one sync at w ws false e, le-ltb p (suc at + 0) (omega arith))))
+    ∙ sym (skipped-one sync w ws false e))
 
 skipped-outside : (sync : ℕ) (ws : List ℕ) → outside (reading sync ws) (length ws) ≡ skipped sync ws
 skipped-outside sync ws = count-failing (covered (reading sync ws)) sync 0 0 ws (λ p h. rw (le-ltb p 0 (omega arith)))

@@ -28,7 +28,7 @@ use Rattle.chunk_register.specs.Register.{listCauses, entered, listReply, listR
 use Rattle.chunk_laws.specs.Stretch.{Laid, words, empty, whole, wholeRow}
 use Rattle.chunk_laws.specs.Written.{WriterCall, reply, written, Accepted, recorded, told, allTold, GivenAt, entriesAt, GivenBack, WrittenAlone, WrittenInRows}
 use Rattle.chunk_laws.proofs.Listed.{place-answered}
-use Rattle.chunk_laws.proofs.Rows.{entries, row-first, row-rest, row-mark, row-confirmed, row-drop, payload-there, left-rest, lists-row, skips-none}
+use Rattle.chunk_laws.proofs.Rows.{entries, row-first, row-mark, row-confirmed, row-drop, payload-there, left-rest, lists-row, skips-none}
 
 -- ---- what the writer takes, room aside, and the chunk that it makes of it
 

@@ -5,8 +5,9 @@ use mathlib.Core.Bool.{true, cond}
 use mathlib.Core.List.{List, [], _∷_}
 use lib.ListN.{length, getD, drop}
 use Rattle.chunk.specs.declared.Entry.{Entry}
-use Rattle.chunk.specs.Header.{span, legal, checkAt, checkNumber}
+use Rattle.chunk.specs.Header.{span, legal}
 use Rattle.chunk.specs.Reading.{listed, nextFrom, foundNumber, foundValues}
+use Rattle.chunk_laws.specs.Ends.{answered}
 
 -- ---- the header check
 
@@ -24,7 +25,7 @@ EndingAt sync ws p = HeaderAt sync ws p × (p + span (getD ws (suc p) 0) ≡ len
 
 -- the number of the header check's answer at the place p
 abbrev pub checked : ℕ → List ℕ → ℕ → ℕ
-checked sync ws p = checkNumber (checkAt sync (drop p ws))
+checked sync ws p = answered sync (drop p ws)
 
 -- The header check answers 1 exactly where the words are the one, 2 exactly where they are the other, and 0 elsewhere.
 pub record ChecksWords (sync : ℕ) (ws : List ℕ) (p : ℕ) : Type 0 where

@@ -1,7 +1,7 @@
 pub mod Stretch
 pub mod Listed
-pub mod Answers
 pub mod Ends
+pub mod Answers
 pub mod Resync
 pub mod Outside
 pub mod Hidden

@@ -20,7 +20,7 @@ words sync (c ∷ cs) = sync ∷ c .header ∷ (c .payload ++ words sync cs)
 abbrev pub offset : ℕ → List Laid → ℕ
 offset sync before = length (words sync before)
 
--- no chunk comes after: the chunk before these ends with the row
+-- these are none; of the chunks after one, that it is the row's last
 abbrev pub empty : {A : Type 0} → List A → Bool
 empty [] = true
 empty (c ∷ cs) = false

@@ -156,11 +156,6 @@ module _ (sync : ℕ) (ws : List ℕ) (s : startsFrame sync ws ≡ true) where
       ap (closes ws (frameWords sync ws) (frameCamera ws)) d ∙ closes-at-end sync (frameCamera ws) ws (frameWords sync ws)
       ∙ rw (getD-drop (frameWords sync ws) ws 1 0, add-one, drop-drop 2 (frameWords sync ws) ws)
 
-  -- whether it is complete is one too
-  pub complete-at-end : complete sync ws ≡ isChunk (closesFrame sync (drop (frameWords sync ws) ws) (frameCamera ws))
-  unfolding complete
-  complete-at-end = ap isChunk closing-at-end
-
   -- a frame is described by how far it reaches and what stands at its end
   pub described-by-reach : (r : Reach) (cam : ℕ) (c : Check) (all last : Bool) → r ≡ reachOf sync ws → cam ≡ frameCamera ws
       → c ≡ closesFrame sync (take (length ws - r .end .0) (drop (r .end .0) ws)) cam → all ≡ isChunk c → last ≡ isAtEnd c

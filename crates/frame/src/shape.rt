@@ -53,7 +53,8 @@ pub fn measure(words: &[u16], sync: u16) -> Reach
     }
 }
 
-// What closes a frame at the front of these words: a health chunk whose first packet is sound and of the camera's type. The type is looked at first.
+// What the header check answers of a health chunk at the front of these words whose first packet is sound and of the camera's type; where none stands
+// there nothing closes the frame. The type is looked at first.
 pub fn closes(words: &[u16], sync: u16, camera: u16) -> Check
     ensures { λ r. ⌜ r ≡ closesFrame sync (now (words .entry)) camera ⌝ }
 {

@@ -11,7 +11,7 @@ use lib.Dec.{eqb}
 use borrow.Author.Tests.{eq-eqb, ne-eqb, eqb-true, eqb-false}
 use Rattle.chunk.specs.declared.Entry.{Entry}
 use Rattle.chunk.specs.Header.{span}
-use Rattle.chunk.specs.Reading.{entry, listed, listedWords}
+use Rattle.chunk.specs.Reading.{listed, listedWords}
 use Rattle.chunk_laws.specs.Resync.{movedEntry, moved}
 use Rattle.chunk_laws.proofs.ByPlace.{listed-moved}
 use Rattle.frame.specs.declared.Description.{Description}

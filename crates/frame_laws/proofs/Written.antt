@@ -38,6 +38,7 @@ use Rattle.frame.specs.Walk.{startsFrame, closesFrame}
 use Rattle.frame_reading.specs.Replies.{frame, refused, told, noFrame, atCauses, judgeCauses, readCauses, atReply, judgeReply, readReply, readRoom}
 use Rattle.frame.proofs.Joining.{joining-one}
 use Rattle.frame.proofs.Walking.{own-mark, closing-at-end}
+use Rattle.frame_laws.specs.Local.{unmarked}
 use Rattle.frame_laws.specs.Written.{joined, unitRow, unitRows, fullButLast, allUnits, Image, imageUnits, frameCalls, WrittenFrame, recordingOf, ComesBack, FramesComeBack, ObservationCloses}
 
 -- ---- a payload splits into its units
@@ -99,8 +100,7 @@ row-append (c ∷ cs) ds k l = and-both (whole c) _ (row-first c cs k) (row-appe
 
 -- the entries of a row that another chunk follows: none of them has the mark
 abbrev followed : ℕ → List Laid → List Entry
-followed at [] = []
-followed at (c ∷ cs) = entry at (c .header) false ∷ followed (at + span (c .header)) cs
+followed at cs = unmarked (entries at cs)
 
 not-last : (cs : List Laid) (d : Laid) (ds : List Laid) → empty (cs ++ d ∷ ds) ≡ false
 not-last [] d ds = refl

@@ -9,11 +9,11 @@ use native.Mathlib.Omega.{arith}
 use lib.ListN.{getD}
 use lib.Dec.{leb, eqb}
 use borrow.Author.Tests.{lt-ltb, le-ltb, le-leb, lt-leb}
-use Rattle.base.proofs.Booleans.{and-both}
+use Rattle.base.proofs.Booleans.{and-both, by-test}
 use Rattle.chunk.specs.declared.Entry.{Entry}
 use Rattle.chunk.specs.Header.{kind, size, confirmed, atEnd}
 use Rattle.chunk.specs.Reading.{entry, listed, within}
-use Rattle.chunk.proofs.Steps.{past}
+use Rattle.chunk.proofs.Steps.{listed-one, past}
 use Rattle.health_last.specs.Packets.{packetPlaces, chunkPlaces, inEnd, foundAt, lastWhere}
 use Rattle.health_last.proofs.Later.{last-cases, nothing-in-none}
 
@@ -60,14 +60,9 @@ pub none-before : (sync at left : ℕ) (ws : List ℕ) (p : ℕ) → p < at → 
 unfolding inEnd listed
 none-before sync at left [] p h = refl
 none-before sync at (suc left) (w ∷ ws) p h = none-before sync (suc at) left ws p (omega arith)
-none-before sync at zero (w ∷ ws) p h = by-check (λ left. none-before sync (suc at) left ws p (omega arith)) (confirmed sync (w ∷ ws))
-  where
-    by-check : ((left : ℕ) → inEnd p (listed sync (suc at) left ws) ≡ false) → (b : Bool)
-        → inEnd p (elim b as (λ x. List Entry) [
-          | true ↦ entry at (getD ws 0 0) (atEnd (w ∷ ws)) ∷ listed sync (suc at) (suc (size (getD ws 0 0))) ws
-          | false ↦ listed sync (suc at) zero ws
-        ]) ≡ false
-    by-check rest true =
-        let left = suc (size (getD ws 0 0)) in
-        before-first (entry at (getD ws 0 0) (atEnd (w ∷ ws))) p (listed sync (suc at) left ws) h ∙ rest left
-    by-check rest false = rest zero
+none-before sync at zero (w ∷ ws) p h =
+    by-test (confirmed sync (w ∷ ws))
+    (λ c. rw (listed-one sync at w ws true c)
+    (before-first (entry at (getD ws 0 0) (atEnd (w ∷ ws))) p (listed sync (suc at) (suc (size (getD ws 0 0))) ws) h
+    ∙ none-before sync (suc at) (suc (size (getD ws 0 0))) ws p (omega arith)))
+    (λ c. rw (listed-one sync at w ws false c) (none-before sync (suc at) 0 ws p (omega arith)))

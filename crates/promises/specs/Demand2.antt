@@ -69,14 +69,14 @@ pub record Demand2 : Type 0 where
   pub upsets : UpsetsAreRead
   -- the mode of an observation is the one that its byte means, by number and values
   pub modes : Modes
-  -- what is found is the last sound packet of the type: in all words, and in a recording made of written packets
+  -- what is found is the last sound packet of the type: in all words, and in a recording made of written packets, with the mark of its chunk
   pub found : FoundIsLast
   pub lastInScience : LastInScience
   pub noneInScience : NoneInScience
   pub lastInHealth : LastInHealth
   pub noneInHealth : NoneInHealth
-  -- of the last packets of two recordings the newer is shown, never a stale one, and it comes back as it was written; two times exchanged exchange the
-  -- answer, and where the counter stood does not matter
+  -- of the last packets of two recordings the newer is shown, never a stale one, and it comes back as it was written, with the mark of its chunk; two
+  -- times exchanged exchange the answer, and where the counter stood does not matter
   pub newest : NewestIsShown
   pub newestWritten : NewestComesBack
   pub exchanged : NewerExchanged
@@ -107,7 +107,7 @@ pub record Demand2 : Type 0 where
   pub arrived : units.ArrivedHold
   -- and a written observation packet is what closes it
   pub closing : ObservationCloses
-  -- a frame is a matter of its own words alone, and a continuation after a skipped word joins nothing and is stray
+  -- a frame is a matter of its own words alone, but for the mark of its last chunk, and a continuation after a skipped word joins nothing and is stray
   pub local : FramesLocal
   pub stray : StrayAfterGap
   -- going through a recording tells its frames and strays, each as what it is, and no others

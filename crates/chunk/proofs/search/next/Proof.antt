@@ -1,7 +1,6 @@
 -- `chunk::search::next` meets its contract: what the search finds from `at` on is what it finds from the start.
 use mathlib.Core.Path.{_≡_, refl, sym, ap, ap₂, _∙_}
 use mathlib.Core.Bool.{true}
-use mathlib.Core.List.{List}
 use Prim.Native.Nat.{ℕ, suc, _+_, _-_, _≤_}
 use native.Mathlib.Numerals.{add-one}
 use native.Mathlib.Omega.{arith}
@@ -24,31 +23,28 @@ abbrev μ-loop : tie.MeasureT-loop
 loop-holds : tie.Need-loop-holds Inv-loop μ-loop
 loop-holds c = refl
 
--- what the check found at `at`
-module _ (c : tie.After-is-chunk Inv-loop μ-loop) where
-  abbrev l : tie.At-loop Inv-loop μ-loop
-  l = c .before .before .before
-
-  abbrev ws : List ℕ
-  ws = l .before .before .args .words .now
-
-  chunk-here : c .is-chunk .result ≡ confirmed (l .before .before .args .sync) (drop (l .loop .at) ws)
-  chunk-here = c .is-chunk .ensures ∙ ap isChunk (c .before .check .ensures) ∙ check-chunk _ _
+-- the check finds a chunk at `at` where one is confirmed
+checked : (c : tie.After-is-chunk Inv-loop μ-loop)
+    → (let l = c .before .before .before in
+    c .is-chunk .result ≡ confirmed (l .before .before .args .sync) (drop (l .loop .at) (l .before .before .args .words .now)))
+checked c = c .is-chunk .ensures ∙ ap isChunk (c .before .check .ensures) ∙ check-chunk _ _
 
 loop-again : tie.Need-loop-again Inv-loop μ-loop
 loop-again c =
     let l = c .before .before .before .before in
     let a = l .before .before .args in
     ap (λ (n : ℕ). nextFrom (a .sync) (a .words .now) n) (add-one (l .loop .at))
-    ∙ sym (found-later (a .sync) (a .words .now) (l .loop .at) (omega arith) (sym (chunk-here (c .before)) ∙ c .if2 .left))
+    ∙ sym (found-later (a .sync) (a .words .now) (l .loop .at) (omega arith) (sym (checked (c .before)) ∙ c .if2 .left))
     ∙ l .loop .inv
 
 returns : tie.Need-returns Inv-loop μ-loop
 returns c = let a = c .before .before .before .args in sym (sym (c .before .loop .inv) ∙ found-end (a .sync) (a .words .now) _ (omega arith))
 
--- a chunk stands at `at`
-here : (c : tie.Then2 Inv-loop μ-loop) → (let t = c .before in confirmed (l t .before .before .args .sync) (drop (l t .loop .at) (ws t)) ≡ true)
-here c = sym (chunk-here (c .before)) ∙ c .if2 .taken
+-- the chunk that stands at `at`
+here : (c : tie.Then2 Inv-loop μ-loop)
+    → (let l = c .before .before .before .before in
+    confirmed (l .before .before .args .sync) (drop (l .loop .at) (l .before .before .args .words .now)) ≡ true)
+here c = sym (checked (c .before)) ∙ c .if2 .taken
 
 -- its header word
 word : (c : tie.After-word-at Inv-loop μ-loop)
