@@ -255,6 +255,10 @@ module _ (sync : ℕ) (ws : List ℕ) where
 
 -- ---- what a step of the search tells of the reading
 
+-- the chunks that are listed from a place on, where none is in hand
+abbrev pub listedFrom : ℕ → List ℕ → ℕ → List Entry
+listedFrom sync ws p = listed sync p 0 (drop p ws)
+
 -- a chunk is listed at a place where none is in hand and one is confirmed
 pub listed-at-yes : (sync p : ℕ) (ws : List ℕ) → leftAt sync 0 ws p ≡ 0 → confirmed sync (drop p ws) ≡ true → listedAt sync ws p ≡ true
 unfolding listedAt
@@ -284,7 +288,7 @@ pub record Next (sync : ℕ) (ws : List ℕ) (p : ℕ) (e : Entry) (n : ℕ) : T
   pub confirms : confirmed sync (drop (e .position .0) ws) ≡ true
   pub noise : Noise sync ws p (e .position .0)
   -- it is the first that is listed, and the words before it are skipped
-  pub lists : listed sync p 0 (drop p ws) ≡ e ∷ listed sync n 0 (drop n ws)
+  pub lists : listedFrom sync ws p ≡ e ∷ listedFrom sync ws n
   pub skips : skippedFrom sync 0 (drop p ws) ≡ (e .position .0 - p) + skippedFrom sync 0 (drop n ws)
   -- where no chunk is in hand at p, none is up to its first word, and inside it what is left of it
   pub free : leftAt sync 0 ws p ≡ 0 → (i : ℕ) → p ≤ i → i ≤ e .position .0 → leftAt sync 0 ws i ≡ 0
@@ -293,7 +297,7 @@ pub record Next (sync : ℕ) (ws : List ℕ) (p : ℕ) (e : Entry) (n : ℕ) : T
 -- The search from p finds none.
 pub record Last (sync : ℕ) (ws : List ℕ) (p : ℕ) : Type 0 where
   pub noise : (i : ℕ) → p ≤ i → confirmed sync (drop i ws) ≡ false
-  pub lists : listed sync p 0 (drop p ws) ≡ []
+  pub lists : listedFrom sync ws p ≡ []
   pub skips : skippedFrom sync 0 (drop p ws) ≡ length ws - p
 
 module _ (sync : ℕ) (ws : List ℕ) (p : ℕ) where

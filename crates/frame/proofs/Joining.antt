@@ -16,12 +16,8 @@ use Rattle.chunk.specs.declared.Found.{Found}
 use Rattle.chunk.specs.declared.Found.the-variants.{Chunk, End}
 use Rattle.chunk.specs.Header.{kind, span, confirmed, atEnd, chunkCheck, checkAt}
 use Rattle.chunk.specs.Reading.{entry, listed, anyEnd, listedWords, nextFrom}
-use Rattle.chunk.proofs.Steps.{Next, stepped, ended, found-here, confirmed-bounds, confirmed-end}
+use Rattle.chunk.proofs.Steps.{listedFrom, Next, stepped, ended, found-here, confirmed-bounds, confirmed-end}
 use Rattle.frame.specs.Shape.{continues, full, joining, observes, closes}
-
--- the listed chunks from a place on, where no chunk is in hand
-abbrev pub listedFrom : ℕ → List ℕ → ℕ → List Entry
-listedFrom sync ws at = listed sync at 0 (drop at ws)
 
 -- the entry of the chunk at a place with the header word h
 abbrev pub entryAt : List ℕ → ℕ → ℕ → Entry

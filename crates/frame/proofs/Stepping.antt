@@ -15,12 +15,11 @@ use Rattle.chunk.specs.declared.Entry.{Entry}
 use Rattle.chunk.specs.declared.Found.{Found}
 use Rattle.chunk.specs.Header.{kind, camera, span}
 use Rattle.chunk.specs.Reading.{nextFrom}
-use Rattle.chunk.proofs.Steps.{Next, ended}
+use Rattle.chunk.proofs.Steps.{listedFrom, Next, ended}
 use Rattle.frame.specs.declared.Piece.{Piece}
 use Rattle.frame.specs.Shape.{starts, continues, full}
 use Rattle.frame.specs.Walk.{startsFrame}
 use Rattle.frame.specs.Pieces.{framesAndStrays, piecesFrom, frameThere, strayThere, firstPiece, nextPiece}
-use Rattle.frame.proofs.Joining.{listedFrom}
 
 -- ---- one listed chunk
 

@@ -15,14 +15,14 @@ use Rattle.chunk.specs.declared.Check.{Check}
 use Rattle.chunk.specs.declared.Entry.{Entry}
 use Rattle.chunk.specs.Header.{size, span, confirmed, atEnd, isChunk, isAtEnd}
 use Rattle.chunk.specs.Reading.{reading, anyEnd, listedWords}
-use Rattle.chunk.proofs.Steps.{confirmed-bounds}
+use Rattle.chunk.proofs.Steps.{listedFrom, confirmed-bounds}
 use Rattle.parity_units.specs.Split.{dataWords, dataWordsIn}
 use Rattle.frame.specs.declared.shape.Reach.{Reach}
 use Rattle.frame.specs.Shape.{starts, continues, full, joining, frameOf, frameChunks, frameWords, frameCamera, closes, closing, complete, frameEnd}
 use Rattle.frame.specs.Picture.{unitsOf, frameLength}
 use Rattle.frame.specs.Described.{description, described}
 use Rattle.frame.specs.Walk.{startsFrame, joinsFrame, closesFrame, reachOf}
-use Rattle.frame.proofs.Joining.{listedFrom, entryAt, confirmed-inside, next-here, joining-step, joining-stop, closes-at-end, AfterJoined, after-joined}
+use Rattle.frame.proofs.Joining.{entryAt, confirmed-inside, next-here, joining-step, joining-stop, closes-at-end, AfterJoined, after-joined}
 use Rattle.frame.proofs.Chunks.{data-more}
 
 -- what joins after a chunk with a payload of n words, which ends at `end`

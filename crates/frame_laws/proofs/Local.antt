@@ -26,7 +26,8 @@ use Rattle.frame.specs.Shape.{starts, continues, full, joining, frameOf, frameC
 use Rattle.frame.specs.Picture.{payloadOf, chunkUnits, unitsOf, frameUnits}
 use Rattle.frame.specs.Walk.{startsFrame}
 use Rattle.frame.specs.Pieces.{framesAndStrays}
-use Rattle.frame.proofs.Joining.{joining-one, listedFrom}
+use Rattle.chunk.proofs.Steps.{listedFrom}
+use Rattle.frame.proofs.Joining.{joining-one}
 use Rattle.frame.proofs.Chunks.{payload-length}
 use Rattle.frame.proofs.Walking.{first-and-ahead, frame-ends-inside}
 use Rattle.frame.proofs.Stepping.{pick, pieces-one}

@@ -17,14 +17,14 @@ use Rattle.chunk.specs.declared.Found.the-variants.{Chunk, End}
 use Rattle.chunk.specs.Header.{size, kind, span, atEnd}
 use Rattle.chunk.specs.Reading.{entry, listed, nextFrom, listedWords}
 use Rattle.chunk.proofs.Headers.{at-end}
-use Rattle.chunk.proofs.Steps.{past, Next, stepped, found-end}
+use Rattle.chunk.proofs.Steps.{past, listedFrom, Next, stepped, found-end}
 use Rattle.chunk_laws.specs.Resync.{moved}
 use Rattle.chunk_laws.proofs.ByPlace.{listed-moved}
 use Rattle.frame.specs.declared.Piece.{Piece}
 use Rattle.frame.specs.Shape.{starts, continues, full, joining, frameWords}
 use Rattle.frame.specs.Walk.{startsFrame}
 use Rattle.frame.specs.Pieces.{framesAndStrays, piecesFrom, frameThere, strayThere, nextPiece}
-use Rattle.frame.proofs.Joining.{joining-one, listedFrom, AfterJoined, after-joined}
+use Rattle.frame.proofs.Joining.{joining-one, AfterJoined, after-joined}
 use Rattle.frame.proofs.Walking.{ahead, first-and-ahead}
 use Rattle.frame.proofs.Stepping.{pieces-one, continuation, none-left, no-piece, pieces-past-health, health-passed, pieces-at-frame, frame-next, pieces-at-stray, stray-next, frame-starts}
 use Rattle.frame_laws.specs.Pieces.{Says, PiecesSaid}

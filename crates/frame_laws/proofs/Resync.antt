@@ -23,7 +23,8 @@ use Rattle.chunk_laws.proofs.Stretch.{unbroken, clean-unbroken}
 use Rattle.chunk_laws.proofs.Resync.{listed-same, listed-late}
 use Rattle.frame.specs.Shape.{starts, continues, full}
 use Rattle.frame.specs.Pieces.{framesAndStrays, piecesOf, piecesFrom}
-use Rattle.frame.proofs.Joining.{next-here, listedFrom, entryAt}
+use Rattle.chunk.proofs.Steps.{listedFrom}
+use Rattle.frame.proofs.Joining.{next-here, entryAt}
 use Rattle.frame.proofs.Stepping.{pick, pieces-one, no-continuation}
 use Rattle.frame_reading.specs.Replies.{atReply, judgeReply, readReply, readRoom}
 use Rattle.frame_laws.specs.Resync.{SameFrame, FramesAsAlone, StepsAsAlone}

@@ -16,13 +16,13 @@ use Rattle.base.proofs.Booleans.{and-left, and-right, or-cases}
 use Rattle.chunk.specs.declared.Entry.{Entry}
 use Rattle.chunk.specs.Header.{size, camera, kind, span, imageSize, confirmed}
 use Rattle.chunk.specs.Reading.{listedWords}
-use Rattle.chunk.proofs.Steps.{confirmed-bounds, confirmed-end}
+use Rattle.chunk.proofs.Steps.{listedFrom, confirmed-bounds, confirmed-end}
 use Rattle.parity_units.specs.Split.{unitsIn, anyDamaged, givenData}
 use Rattle.parity_units.proofs.Split.{Fair, fair-append, units-fair, given-all}
 use Rattle.frame.specs.Shape.{starts, continues, full, joining, frameChunks}
 use Rattle.frame.specs.Picture.{payloadOf, chunkUnits, unitsOf, frameUnits, frameData}
 use Rattle.frame.specs.Walk.{startsFrame}
-use Rattle.frame.proofs.Joining.{listedFrom, entryAt, confirmed-inside, joining-step, joining-stop}
+use Rattle.frame.proofs.Joining.{entryAt, confirmed-inside, joining-step, joining-stop}
 use Rattle.frame.proofs.Chunks.{image-size, payload-length}
 use Rattle.frame.proofs.Walking.{first-and-ahead, frame-ends-inside}
 use Rattle.frame_reading.specs.Along.{wordsAlong, unitsAlong}

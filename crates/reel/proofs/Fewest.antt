@@ -6,9 +6,8 @@ use native.Mathlib.Omega.{arith}
 use lib.ListN.{length}
 use Rattle.chunk.specs.declared.Found.{Found}
 use Rattle.chunk.specs.Reading.{reading, nextFrom}
-use Rattle.chunk.proofs.Steps.{Next, stepped, ended, found-end}
+use Rattle.chunk.proofs.Steps.{listedFrom, Next, stepped, ended, found-end}
 use Rattle.reel.specs.Layout.{shortestChunk}
-use Rattle.reel.proofs.OnReel.{listedFrom}
 
 module _ (sync : ℕ) (ws : List ℕ) where
   few-from : (k p : ℕ) → length ws ≤ p + k → p ≤ length ws → p + shortestChunk * length (listedFrom sync ws p) ≤ length ws

@@ -10,11 +10,11 @@ use lib.Dec.{eqb, ltb}
 use borrow.Author.Tests.{eq-eqb, ne-eqb, ltb-true, ltb-false}
 use Rattle.chunk.specs.declared.Entry.{Entry}
 use Rattle.chunk.specs.Reading.{reading}
-use Rattle.chunk.proofs.Steps.{Next, Last}
+use Rattle.chunk.proofs.Steps.{listedFrom, Next, Last}
 use Rattle.reel.specs.Layout.{entryWidth, entryWords, indexWords}
 use Rattle.reel.specs.Reading.{sameWords}
 use Rattle.reel.proofs.Same.{same-true, same-none, same-append}
-use Rattle.reel.proofs.OnReel.{two-words, listedFrom}
+use Rattle.reel.proofs.OnReel.{two-words}
 
 -- an entry at a place of the index: its two words, where there are two
 module _ (index : List ℕ) (at : ℕ) (e : Entry) where

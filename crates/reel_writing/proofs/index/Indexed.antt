@@ -10,9 +10,9 @@ use Rattle.base_room.proofs.RoomLaws.{put-put, put-length}
 use Rattle.base_room.proofs.Filling.{put-nothing}
 use Rattle.chunk.specs.declared.Entry.{Entry}
 use Rattle.chunk.specs.Reading.{reading}
-use Rattle.chunk.proofs.Steps.{Next, Last}
+use Rattle.chunk.proofs.Steps.{listedFrom, Next, Last}
 use Rattle.reel.specs.Layout.{entryWidth, entryWords, indexWords}
-use Rattle.reel.proofs.OnReel.{index-length, listedFrom}
+use Rattle.reel.proofs.OnReel.{index-length}
 
 pub record Indexed (sync : ℕ) (ws room₀ room : List ℕ) (from count : ℕ) : Type 0 where
   pub long : length room ≡ length room₀
