@@ -6,6 +6,7 @@ use Rattle.promises.proofs.calls.Parity as parity
 use Rattle.promises.proofs.calls.Exports as exports
 use Rattle.promises.proofs.calls.Chunk as chunk
 use Rattle.promises.proofs.calls.Register as register
+use Rattle.promises.proofs.calls.Compare as compare
 use Rattle.promises.proofs.calls.Health as health
 use Rattle.promises.proofs.calls.Frame as frame
 use Rattle.promises.proofs.calls.SpacePacket as packet
@@ -23,6 +24,7 @@ calls =
       writeChunk = chunk.write-chunk;
       list = register.list;
       outline = chunk.outline;
+      compareRecordings = compare.recordings;
       writeUnit = parity.write-unit;
       judgeUnit = parity.judge-unit;
       checkUnit = parity.check-unit;
@@ -93,6 +95,8 @@ blocks =
       refusedSurvey = chunk.refused;
       countChunks = chunk.count;
       isListed = chunk.is-listed;
+      compareChunks = compare.chunks;
+      saidPair = compare.said;
       soundAt = health.sound-at;
       starts = frame.starts;
       nextPiece = frame.next;

@@ -1,6 +1,6 @@
 -- FORMAT, "The three demands", the first: every public call accepts every input and ends, and a refusal has its number, in order, with zeros beside it and
--- nothing altered. That each ends is its own proof. The rest stands here, of each public function under its name, but of the four that read or write a
--- descriptor: nothing can be said of what comes or goes there.
+-- nothing altered. That each ends is its own proof. The rest stands here, of each public function under its name, but of the five that read or write a
+-- descriptor or a file: nothing can be said of what comes or goes there.
 use Rattle.promises.specs.Ties.{Determined, Answers}
 use Rattle.promises.specs.calls.Base as base
 use Rattle.promises.specs.calls.Crc as crc
@@ -8,6 +8,7 @@ use Rattle.promises.specs.calls.Parity as parity
 use Rattle.promises.specs.calls.Exports as exports
 use Rattle.promises.specs.calls.Chunk as chunk
 use Rattle.promises.specs.calls.Register as register
+use Rattle.promises.specs.calls.Compare as compare
 use Rattle.promises.specs.calls.Health as health
 use Rattle.promises.specs.calls.Frame as frame
 use Rattle.promises.specs.calls.SpacePacket as packet
@@ -25,6 +26,7 @@ pub record Calls : Type 0 where
   pub writeChunk : Answers chunk.writeChunk
   pub list : Answers register.list
   pub outline : Answers chunk.outline
+  pub compareRecordings : Answers compare.recordings
   pub writeUnit : Answers parity.writeUnit
   pub judgeUnit : Answers parity.judgeUnit
   pub checkUnit : Answers parity.checkUnit
@@ -94,6 +96,8 @@ pub record Total : Type 0 where
   pub refusedSurvey : Determined chunk.refused
   pub countChunks : Determined chunk.count
   pub isListed : Determined chunk.isListed
+  pub compareChunks : Determined compare.chunks
+  pub saidPair : Determined compare.said
   pub soundAt : Determined health.soundAt
   pub starts : Determined frame.starts
   pub nextPiece : Determined frame.next

@@ -4,6 +4,7 @@ pub mod Parity
 pub mod Exports
 pub mod Register
 pub mod Chunk
+pub mod Compare
 pub mod Health
 pub mod Frame
 pub mod SpacePacket

@@ -1,0 +1,4 @@
+pub mod Difference
+pub mod Lengths
+mod Replies
+pub mod Pairing

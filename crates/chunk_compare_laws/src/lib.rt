@@ -1,0 +1,1 @@
+// Laws of the comparison of two recordings; no code.

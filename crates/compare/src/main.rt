@@ -1,0 +1,118 @@
+// Two recordings compared chunk by chunk. It reads the two files that its arguments name, each a sync word and a recording, and writes a line for each pair of
+// chunks and one for the chunks that are left over; what they say is the library's.
+mod lines;
+
+use base::Bytes;
+use base::Words;
+use base::limit;
+use base::size::PARITY;
+use chunk::header::HEADER;
+use libc::STDERR_FILENO;
+use libc::STDOUT_FILENO;
+use program_output::Out;
+use program_output::PAGE;
+ghost use Prim.Native.Nat.{_+_, _≤_};
+ghost use lib.ListN.{length};
+
+// the program's own name, and two files
+const ARGUMENTS: usize = 3;
+
+// the sync word, and a recording at the limit
+const WORDS: Words = Words(1 + limit::LISTING_RECORDING.0);
+
+// room for these, and one byte more by which a longer file shows
+const ROOM: Bytes = Bytes(2 * WORDS.0 + 1);
+
+// the shortest chunk: its header, and a unit with one data word
+const SHORTEST_CHUNK: Words = Words(HEADER.0 + PARITY.0 + 1);
+
+// the most pairs: two recordings at the limit, all of them in shortest chunks
+const PAIRS: usize = limit::LISTING_RECORDING.0 / SHORTEST_CHUNK.0;
+
+// What came of a file: it could not be read, it is refused, or its words end here.
+struct Heard {
+    failed: bool,
+    refusal: u8,
+    end: Words,
+}
+
+// The words of the file that an argument names: one that is not refused has a sync word. One that cannot be read gave no byte, and is refused too.
+fn hear(argument: usize, bytes: &mut [u8], words: &mut [u16; WORDS.0]) -> Heard
+    ensures { λ r. ⌜ 1 ≤ r .refusal + r .end .0 ⌝ }
+    ensures { λ r. ⌜ r .end .0 ≤ length (now (words .exit)) ⌝ }
+{
+    let taken = program_files::file(argument, bytes);
+    let count = taken.count.0;
+    let reply = program_input::words(&bytes[..count], limit::LISTING_RECORDING, words);
+    let length = reply.length;
+    Heard {
+        failed: taken.failed,
+        refusal: reply.refusal,
+        end: length,
+    }
+}
+
+// All lines, for two recordings with one sync word. The library has a limit of its own: what it refuses is told.
+fn compare(out: Out, page: &mut [u8; PAGE.0], first: &[u16], second: &[u16], sync: u16) -> Out {
+    let mut list = [0u16; PAIRS];
+    let compared = chunk_compare::recordings(first, second, sync, &mut list);
+    if compared.refusal != 0 {
+        return lines::refused(out, page, compared.refusal);
+    }
+    let paired = lines::pairs(out, page, &list, compared.pairs);
+    lines::left(paired, page, compared)
+}
+
+// What cannot be said in the comparison itself.
+fn complaint(bytes: &[u8]) {
+    io::write_all(STDERR_FILENO, bytes);
+}
+
+// The answer to two files. Both are read before either is judged.
+fn answer(out: Out, page: &mut [u8; PAGE.0]) -> Out {
+    let mut bytes = [0u8; ROOM.0];
+    let mut first = [0u16; WORDS.0];
+    let mut second = [0u16; WORDS.0];
+    let one = hear(1, &mut bytes, &mut first);
+    let other = hear(2, &mut bytes, &mut second);
+    if one.failed {
+        complaint(b"compare: the first file cannot be read\n");
+        return out;
+    }
+    if other.failed {
+        complaint(b"compare: the second file cannot be read\n");
+        return out;
+    }
+    if one.refusal != 0 {
+        return lines::refused(out, page, one.refusal);
+    }
+    if other.refusal != 0 {
+        return lines::refused(out, page, other.refusal);
+    }
+    let sync = first[0];
+    if second[0] != sync {
+        complaint(b"compare: the files have different sync words\n");
+        return out;
+    }
+    let first_end = one.end.0;
+    let second_end = other.end.0;
+    compare(
+        out,
+        page,
+        &first[1..first_end],
+        &second[1..second_end],
+        sync,
+    )
+}
+
+fn main() {
+    if os::arg_count() != ARGUMENTS {
+        complaint(b"compare: two files are to be named\n");
+        return;
+    }
+    let mut page = [0u8; PAGE.0];
+    let out = answer(Out::to(STDOUT_FILENO), &mut page);
+    if out.flush(&page).failed {
+        complaint(b"compare: standard output cannot be written\n");
+    }
+}
