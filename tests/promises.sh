@@ -37,7 +37,7 @@ def public(crate):
 # an item goes on in the lines below it that are indented
 items = re.findall(r'^(?:\*\*|- ).*(?:\n  .*)*', text, re.M)
 functions = {f for crate in pathlib.Path('crates').iterdir() for f in public(crate.name)}
-descriptors = {f for f in functions if f.split('::')[-1] in ('take', 'file', 'flush', 'text', 'number') and f.startswith('program_')}
+descriptors = {f for f in functions if f.split('::')[-1] in ('take', 'file', 'flush', 'text', 'number', 'refused', 'complain') and f.startswith('program_')}
 kinds = {name: kind for name, kind in re.findall(r'^\*\*`([\w:]+)`\*\*, (call|block):', promised, re.M)}
 compare('function', functions - descriptors, set(kinds))
 

@@ -5,12 +5,6 @@ use chunk_compare::Pair;
 use program_output::Out;
 use program_output::PAGE;
 
-pub fn refused(out: Out, page: &mut [u8; PAGE.0], refusal: u8) -> Out {
-    out.text(page, b"refused ")
-        .number(page, refusal as usize)
-        .text(page, b"\n")
-}
-
 // The line of the pair with this number.
 fn pair(out: Out, page: &mut [u8; PAGE.0], number: usize, told: Pair) -> Out {
     let begun = out.text(page, b"pair ").number(page, number);

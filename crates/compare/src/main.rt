@@ -7,7 +7,6 @@ use base::Words;
 use base::limit;
 use base::size::PARITY;
 use chunk::header::HEADER;
-use libc::STDERR_FILENO;
 use libc::STDOUT_FILENO;
 use program_output::Out;
 use program_output::PAGE;
@@ -57,15 +56,10 @@ fn compare(out: Out, page: &mut [u8; PAGE.0], first: &[u16], second: &[u16], syn
     let mut list = [0u16; PAIRS];
     let compared = chunk_compare::recordings(first, second, sync, &mut list);
     if compared.refusal != 0 {
-        return lines::refused(out, page, compared.refusal);
+        return out.refused(page, compared.refusal);
     }
     let paired = lines::pairs(out, page, &list, compared.pairs);
     lines::left(paired, page, compared)
-}
-
-// What cannot be said in the comparison itself.
-fn complaint(bytes: &[u8]) {
-    io::write_all(STDERR_FILENO, bytes);
 }
 
 // The answer to two files. Both are read before either is judged.
@@ -76,22 +70,22 @@ fn answer(out: Out, page: &mut [u8; PAGE.0]) -> Out {
     let one = hear(1, &mut bytes, &mut first);
     let other = hear(2, &mut bytes, &mut second);
     if one.failed {
-        complaint(b"compare: the first file cannot be read\n");
+        program_output::complain(b"compare: the first file cannot be read\n");
         return out;
     }
     if other.failed {
-        complaint(b"compare: the second file cannot be read\n");
+        program_output::complain(b"compare: the second file cannot be read\n");
         return out;
     }
     if one.refusal != 0 {
-        return lines::refused(out, page, one.refusal);
+        return out.refused(page, one.refusal);
     }
     if other.refusal != 0 {
-        return lines::refused(out, page, other.refusal);
+        return out.refused(page, other.refusal);
     }
     let sync = first[0];
     if second[0] != sync {
-        complaint(b"compare: the files have different sync words\n");
+        program_output::complain(b"compare: the files have different sync words\n");
         return out;
     }
     let first_end = one.end.0;
@@ -107,12 +101,12 @@ fn answer(out: Out, page: &mut [u8; PAGE.0]) -> Out {
 
 fn main() {
     if os::arg_count() != ARGUMENTS {
-        complaint(b"compare: two files are to be named\n");
+        program_output::complain(b"compare: two files are to be named\n");
         return;
     }
     let mut page = [0u8; PAGE.0];
     let out = answer(Out::to(STDOUT_FILENO), &mut page);
     if out.flush(&page).failed {
-        complaint(b"compare: standard output cannot be written\n");
+        program_output::complain(b"compare: standard output cannot be written\n");
     }
 }

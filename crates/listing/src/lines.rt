@@ -10,12 +10,6 @@ use frame::pieces;
 use program_output::Out;
 use program_output::PAGE;
 
-pub fn refused(out: Out, page: &mut [u8; PAGE.0], refusal: u8) -> Out {
-    out.text(page, b"refused ")
-        .number(page, refusal as usize)
-        .text(page, b"\n")
-}
-
 pub fn recording(out: Out, page: &mut [u8; PAGE.0], words: &[u16], sync: u16) -> Out {
     let survey = chunk_reading::counting::count(words, sync);
     out.text(page, b"recording ")

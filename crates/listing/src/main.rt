@@ -5,7 +5,6 @@ mod lines;
 use base::Bytes;
 use base::Words;
 use base::limit;
-use libc::STDERR_FILENO;
 use libc::STDIN_FILENO;
 use libc::STDOUT_FILENO;
 use program_output::Out;
@@ -36,28 +35,23 @@ fn answer(out: Out, page: &mut [u8; PAGE.0], bytes: &[u8]) -> Out {
     let mut words = [0u16; WORDS.0];
     let reply = program_input::words(bytes, limit::LISTING_RECORDING, &mut words);
     if reply.refusal != 0 {
-        return lines::refused(out, page, reply.refusal);
+        return out.refused(page, reply.refusal);
     }
     let length = reply.length.0;
     list(out, page, &words[..length])
-}
-
-// What cannot be said in the listing itself.
-fn complaint(bytes: &[u8]) {
-    io::write_all(STDERR_FILENO, bytes);
 }
 
 fn main() {
     let mut bytes = [0u8; ROOM.0];
     let taken = program_reading::take(STDIN_FILENO, &mut bytes);
     if taken.failed {
-        complaint(b"listing: standard input cannot be read\n");
+        program_output::complain(b"listing: standard input cannot be read\n");
         return;
     }
     let count = taken.count.0;
     let mut page = [0u8; PAGE.0];
     let out = answer(Out::to(STDOUT_FILENO), &mut page, &bytes[..count]);
     if out.flush(&page).failed {
-        complaint(b"listing: standard output cannot be written\n");
+        program_output::complain(b"listing: standard output cannot be written\n");
     }
 }

@@ -1,5 +1,6 @@
 // A program's output: text and numbers are gathered on a page that the caller lends, and written when it is full and at the end.
 use base::Bytes;
+use libc::STDERR_FILENO;
 ghost use mathlib.Core.Path.{_≡_};
 ghost use Prim.Native.Nat.{_+_};
 ghost use lib.ListN.{length};
@@ -97,6 +98,18 @@ impl Out {
     pub fn number(self, page: &mut [u8; PAGE.0], n: usize) -> Out {
         self.ready(page, DIGITS).append_number(page, n)
     }
+
+    // The line of a refusal.
+    pub fn refused(self, page: &mut [u8; PAGE.0], refusal: u8) -> Out {
+        self.text(page, b"refused ")
+            .number(page, refusal as usize)
+            .text(page, b"\n")
+    }
+}
+
+// Says on standard error what a program cannot say in its output.
+pub fn complain(bytes: &[u8]) {
+    io::write_all(STDERR_FILENO, bytes);
 }
 
 // Whether so many bytes more have room on the page. No sum of the two: it may be too large.

@@ -1,5 +1,5 @@
 -- FORMAT, "The three demands", the first: every public call accepts every input and ends, and a refusal has its number, in order, with zeros beside it and
--- nothing altered. That each ends is its own proof. The rest stands here, of each public function under its name, but of the five that read or write a
+-- nothing altered. That each ends is its own proof. The rest stands here, of each public function under its name, but of those that read or write a
 -- descriptor or a file: nothing can be said of what comes or goes there.
 use Rattle.promises.specs.Ties.{Determined, Answers}
 use Rattle.promises.specs.calls.Base as base
