@@ -17,7 +17,7 @@ chunkWords ws e = take (span (e .header)) (drop (e .position .0) ws)
 abbrev pub differs : ℕ → Pair
 differs n = Pair.Differs (record { 0 = n })
 
--- what is told of the words after the first k is told of the whole
+-- what is told of the words behind the first k, told of the whole: a word of theirs stands k words further
 abbrev pub further : ℕ → Pair → Pair
 further k Pair.Same = Pair.Same
 further k (Pair.Differs n) = differs (k + n .0)
