@@ -1,7 +1,7 @@
 -- Going through a recording, a frame or a stray at a time: what the search finds is the first of the listed chunks, and its header word says whether it
 -- starts a frame, is stray, as none is in hand, or is passed.
 use mathlib.Core.Path.{_≡_, refl, sym, ap, _∙_}
-use mathlib.Core.Bool.{Bool, true, false, _&&_}
+use mathlib.Core.Bool.{Bool, true, false, _&&_, false≢true}
 use mathlib.Core.List.{List, [], _∷_}
 use Prim.Native.Nat.{ℕ, _+_, _≤_}
 use native.Mathlib.Omega.{arith}
@@ -10,7 +10,7 @@ use lib.ListN.{getD, drop}
 use lib.Seq.{getD-drop}
 use lib.Dec.{eqb}
 use borrow.Author.Tests.{eq-eqb, ne-eqb, leb-true, leb-false}
-use Rattle.base.proofs.Booleans.{and-left, and-right}
+use Rattle.base.proofs.Booleans.{and-left, and-right, by-test}
 use Rattle.chunk.specs.declared.Entry.{Entry}
 use Rattle.chunk.specs.declared.Found.{Found}
 use Rattle.chunk.specs.Header.{kind, camera, span}
@@ -54,6 +54,10 @@ module _ (h : ℕ) where
   no-continuation s =
       let c : 1 ≤ camera h = leb-true 1 (camera h) (and-right (eqb (kind h) 0) _ s) in
       rw (and-left (eqb (kind h) 0) _ s) (ne-eqb (camera h) 0 (λ z. omega arith))
+
+  -- and what continues one starts none
+  pub starts-none : continues h ≡ true → starts h ≡ false
+  starts-none c = by-test (starts h) (λ s. absurd (false≢true (sym (no-continuation s) ∙ c))) (λ s. s)
 
   -- an image chunk that starts none is a continuation
   pub continuation : kind h ≡ 0 → starts h ≡ false → continues h ≡ true

@@ -3,27 +3,25 @@
 use mathlib.Core.Path.{_≡_, refl, sym, ap, ap₂, subst, _∙_}
 use mathlib.Core.Bool.{Bool, true, false, and-false}
 use mathlib.Core.List.{List, [], _∷_, _++_}
-use Prim.Native.Nat.{ℕ, zero, suc, _+_, _%_, _≤_}
+use Prim.Native.Nat.{ℕ, zero, suc, _+_, _≤_}
 use native.Mathlib.Omega.{arith}
 use native.Mathlib.Nat.{zero-add}
 use native.Mathlib.Numerals.{add-one}
 use lib.ListN.{length, getD, take, drop}
 use lib.Seq.{getD-drop, drop-drop}
 use lib.Dec.{eqb, leb}
-use mathlib.Core.Logic.{inl, inr, ⊎-elim}
-use borrow.Author.Tests.{eqb-true, leb-true}
-use Rattle.base.proofs.Booleans.{and-left, and-right, or-cases}
+use Rattle.base.proofs.Booleans.{and-left, and-right}
 use Rattle.chunk.specs.declared.Entry.{Entry}
 use Rattle.chunk.specs.Header.{size, camera, kind, span, imageSize, confirmed}
 use Rattle.chunk.specs.Reading.{listedWords}
 use Rattle.chunk.proofs.Steps.{listedFrom, confirmed-bounds, confirmed-end}
 use Rattle.parity_units.specs.Split.{unitsIn, anyDamaged, givenData}
-use Rattle.parity_units.proofs.Split.{Fair, fair-append, units-fair, given-all}
+use Rattle.parity_units.proofs.Split.{Fair, fair-append, given-all}
 use Rattle.frame.specs.Shape.{starts, continues, full, joining, frameChunks}
 use Rattle.frame.specs.Picture.{payloadOf, chunkUnits, unitsOf, frameUnits, frameData}
 use Rattle.frame.specs.Walk.{startsFrame}
 use Rattle.frame.proofs.Joining.{entryAt, confirmed-inside, joining-step, joining-stop}
-use Rattle.frame.proofs.Chunks.{image-size, payload-length}
+use Rattle.frame.proofs.Chunks.{image-size, payload-length, image-fair}
 use Rattle.frame.proofs.Walking.{first-and-ahead, frame-ends-inside}
 use Rattle.frame_reading.specs.Along.{wordsAlong, unitsAlong}
 
@@ -82,12 +80,6 @@ record Along (ws : List ℕ) (at : ℕ) (es : List Entry) : Type 0 where
   words : wordsAlong (length es) (drop at ws) ≡ listedWords es
   units : unitsAlong (length es) (drop at ws) ≡ unitsOf ws es
   fair : Fair (unitsOf ws es)
-
--- a payload of a legal image size splits into units of 9 to 264 words
-image-fair : (p : List ℕ) → imageSize (length p) ≡ true → Fair (unitsIn p)
-image-fair p i =
-    units-fair p
-    (⊎-elim (λ z. inl (eqb-true (length p % 264) 0 z)) (λ z. inr (leb-true 9 (length p % 264) z)) (or-cases (eqb (length p % 264) 0) (leb 9 (length p % 264)) i))
 
 row-along : (ws : List ℕ) (at : ℕ) (es : List Entry) → Row ws at es → Along ws at es
 unfolding wordsAlong unitsAlong listedWords unitsOf

@@ -2,18 +2,12 @@
 use mathlib.Core.Path.{_≡_, refl, sym, ap, _∙_}
 use mathlib.Core.Bool.{Bool, true, false, cond}
 use mathlib.Core.List.{List, [], _∷_, _++_}
-use Prim.Native.Nat.{ℕ, zero, suc, _+_, _-_, _*_, _/_, _≤_, _<_}
-use native.Mathlib.Nat.{add-zero}
+use Prim.Native.Nat.{ℕ, zero, suc, _+_, _-_, _*_, _≤_, _<_}
 use native.Mathlib.Omega.{arith}
-use lib.ListN.{length, getD, take, drop}
-use lib.Seq.{getD-take, getD-drop}
-use lib.Dec.{lit<}
-use borrow.Author.Tests.{eq-eqb, ne-eqb}
+use lib.ListN.{length, drop}
 use Rattle.chunk.specs.declared.Entry.{Entry}
-use Rattle.chunk.specs.Header.{kind, size}
 use Rattle.chunk.specs.Reading.{listed, reading}
 use Rattle.chunk.proofs.Steps.{Next, Last, past}
-use Rattle.health.specs.Packet.{packetType, soundPacket}
 use Rattle.health_last.specs.declared.Marked.{Marked}
 use Rattle.health_last.specs.declared.Sought.{Sought}
 use Rattle.health_last.specs.declared.Sought.the-variants.{At, Nowhere}
@@ -22,21 +16,6 @@ use Rattle.health_last.specs.Seek.{laterMarked}
 use Rattle.health_last.specs.Last.{inScience}
 use Rattle.health_last.proofs.Later.{later-none, later-assoc, last-append}
 use Rattle.health_last.proofs.Marks.{chunk-bounds, past-first, inside-first, none-before}
-
--- ---- one place
-
--- the type of the packet at a place is the word there
-type-at : (ws : List ℕ) (p : ℕ) → packetType (take 32 (drop p ws)) ≡ getD ws p 0
-type-at ws p = getD-take 32 (drop p ws) 0 0 (lit< tt) ∙ getD-drop p ws 0 0 ∙ ap (λ (n : ℕ). getD ws n 0) (add-zero p)
-
-module _ (t : ℕ) (ws : List ℕ) (p : ℕ) where
-  pub other-type : (getD ws p 0 ≡ t → ⊥) → soundOf ws t p ≡ false
-  unfolding soundOf
-  other-type h = simp (ne-eqb _ t (λ e. h (sym (type-at ws p) ∙ e)))
-
-  pub own-type : getD ws p 0 ≡ t → soundOf ws t p ≡ soundPacket (take 32 (drop p ws))
-  unfolding soundOf
-  own-type h = simp (eq-eqb _ t (type-at ws p ∙ h))
 
 -- ---- a row of packets, from the back
 
@@ -75,15 +54,6 @@ module _ (f : ℕ → Bool) where
   none-left n from e = ap (λ (k : ℕ). lastWhere f (packetPlaces k from)) e
 
 -- ---- a chunk
-
-module _ (e : Entry) where
-  pub no-packets : (f : ℕ → Bool) → (kind (e .header) ≡ 1 → ⊥) → lastWhere f (chunkPlaces e) ≡ Nowhere
-  unfolding chunkPlaces lastWhere
-  no-packets f h = simp (ne-eqb (kind (e .header)) 1 h)
-
-  pub chunk-packets : kind (e .header) ≡ 1 → chunkPlaces e ≡ packetPlaces (size (e .header) / 32) (e .position .0 + 2)
-  unfolding chunkPlaces
-  chunk-packets h = simp (eq-eqb (kind (e .header)) 1 h)
 
 -- ---- a science recording, chunk by chunk
 

@@ -3,14 +3,15 @@ use mathlib.Core.Path.{sym, ap, _∙_}
 use Prim.Native.Nat.{ℕ, _/_, _+_}
 use borrow.Author.Needs.{needs}
 use Rattle.health_last.specs.Packets.{packetPlaces, soundOf, lastWhere}
-use Rattle.health_last.proofs.seek.Seeking.{no-packets, chunk-packets}
+use Rattle.health_last.proofs.Places.{no-packets, chunk-packets}
 use Rattle.health_last.proofs.seek.in_chunk.Statement.{statement}
 use Rattle.health_last.proofs.seek.in_chunk.Tie as tie
 
 returns : tie.Need-returns
+unfolding lastWhere
 returns c =
     let a = c .before .before .before .args in
-    sym (no-packets (a .chunk) (soundOf (a .words .now) (a .packet-type)) (λ e. c .if1 .taken (c .before .kind-of .ensures ∙ e)))
+    sym (ap (lastWhere (soundOf (a .words .now) (a .packet-type))) (no-packets (a .chunk) (λ e. c .if1 .taken (c .before .kind-of .ensures ∙ e))))
 
 returns-2 : tie.Need-returns-2
 returns-2 c =

@@ -1,7 +1,7 @@
 -- `health_last::seek::is_of` meets its contract: the type is the word at the place.
 use mathlib.Core.Path.{sym, _∙_}
 use borrow.Author.Needs.{needs}
-use Rattle.health_last.proofs.seek.Seeking.{other-type, own-type}
+use Rattle.health_last.proofs.Places.{other-type, own-type}
 use Rattle.health_last.proofs.seek.is_of.Statement.{statement}
 use Rattle.health_last.proofs.seek.is_of.Tie as tie
 
