@@ -38,7 +38,7 @@ def public(crate):
 items = re.findall(r'^(?:\*\*|- ).*(?:\n  .*)*', text, re.M)
 functions = {f for crate in pathlib.Path('crates').iterdir() for f in public(crate.name)}
 # what reads or writes a descriptor or a file has no equation
-descriptors = {'program_reading::take', 'program_files::file', 'program_output::complain'}
+descriptors = {'program_reading::take', 'program_files::file', 'program_files::hear', 'program_output::complain'}
 descriptors |= {f'program_output::Out::{name}' for name in ('flush', 'text', 'number', 'refused')}
 wrong.extend(f'function {x} is an exception and not there' for x in sorted(descriptors - functions))
 kinds = {name: kind for name, kind in re.findall(r'^\*\*`([\w:]+)`\*\*, (call|block):', promised, re.M)}
@@ -56,8 +56,8 @@ for path in sorted(pathlib.Path('crates/promises/specs/calls').glob('*.antt')):
         described[f'{families.get(path.stem)}.{name}'] = function
         crate, *rest = function.split('::')
         own = '.'.join([contracts.get(crate, '?'), *rest])
-        # the register's claims are read in its family's own file
-        claims = ['ended'] if function == 'chunk_register::list' else ['ended', 'Reads.Asked', 'Reads.Post']
+        # the claims of the two calls that are lent structs are read in their families' own files
+        claims = ['ended'] if function in ('chunk_register::list', 'tally_counts::add') else ['ended', 'Reads.Asked', 'Reads.Post']
         cited = re.findall(r'[\w.]+\.(?:ended|Reads\.\w+)', description)
         if cited != [f'{own}.{claim}' for claim in claims]:
             wrong.append(f'{function} is tied to {", ".join(cited)}')

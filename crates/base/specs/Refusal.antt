@@ -29,7 +29,7 @@ wrongCrc = 5
 abbrev pub wrongParity : ℕ
 wrongParity = 6
 
--- a type or a field has an unspecified value
+-- a type or a field has an unspecified value, or a number of a tally would pass the largest that it holds
 abbrev pub unspecified : ℕ
 unspecified = 7
 

@@ -2,54 +2,25 @@
 // chunks and one for the chunks that are left over; what they say is the library's.
 mod lines;
 
-use base::Bytes;
 use base::Words;
 use base::limit;
 use base::size::PARITY;
 use chunk::header::HEADER;
 use libc::STDOUT_FILENO;
+use program_files::ROOM;
+use program_files::WORDS;
+use program_files::hear;
 use program_output::Out;
 use program_output::PAGE;
-ghost use Prim.Native.Nat.{_+_, _≤_};
-ghost use lib.ListN.{length};
 
 // the program's own name, and two files
 const ARGUMENTS: usize = 3;
-
-// the sync word, and a recording at the limit
-const WORDS: Words = Words(1 + limit::LISTING_RECORDING.0);
-
-// room for these, and one byte more by which a longer file shows
-const ROOM: Bytes = Bytes(2 * WORDS.0 + 1);
 
 // the shortest chunk: its header, and a unit with one data word
 const SHORTEST_CHUNK: Words = Words(HEADER.0 + PARITY.0 + 1);
 
 // the most pairs: two recordings at the limit, all of them in shortest chunks
 const PAIRS: usize = limit::LISTING_RECORDING.0 / SHORTEST_CHUNK.0;
-
-// What came of a file: it could not be read, it is refused, or its words end here.
-struct Heard {
-    failed: bool,
-    refusal: u8,
-    end: Words,
-}
-
-// The words of the file that an argument names: one that is not refused has a sync word. One that cannot be read gave no byte, and is refused too.
-fn hear(argument: usize, bytes: &mut [u8], words: &mut [u16; WORDS.0]) -> Heard
-    ensures { λ r. ⌜ 1 ≤ r .refusal + r .end .0 ⌝ }
-    ensures { λ r. ⌜ r .end .0 ≤ length (now (words .exit)) ⌝ }
-{
-    let taken = program_files::file(argument, bytes);
-    let count = taken.count.0;
-    let reply = program_input::words(&bytes[..count], limit::LISTING_RECORDING, words);
-    let length = reply.length;
-    Heard {
-        failed: taken.failed,
-        refusal: reply.refusal,
-        end: length,
-    }
-}
 
 // All lines, for two recordings with one sync word. The library has a limit of its own: what it refuses is told.
 fn compare(out: Out, page: &mut [u8; PAGE.0], first: &[u16], second: &[u16], sync: u16) -> Out {

@@ -9,6 +9,7 @@ use Rattle.promises.proofs.calls.Register as register
 use Rattle.promises.proofs.calls.Compare as compare
 use Rattle.promises.proofs.calls.Health as health
 use Rattle.promises.proofs.calls.Frame as frame
+use Rattle.promises.proofs.calls.Tally as tally
 use Rattle.promises.proofs.calls.SpacePacket as packet
 use Rattle.promises.proofs.calls.Command as command
 use Rattle.promises.proofs.calls.Event as event
@@ -42,6 +43,9 @@ calls =
       frameAt = frame.at;
       judgeFrame = frame.judge;
       readFrame = frame.read;
+      tallyOf = tally.of;
+      tallyAdded = tally.added;
+      addToTally = tally.add;
       judgeCommand = command.judge;
       commandFirst = command.first;
       readCommand = command.read;
@@ -100,6 +104,9 @@ blocks =
       soundAt = health.sound-at;
       starts = frame.starts;
       nextPiece = frame.next;
+      emptyTally = tally.empty;
+      tallyNumbers = tally.numbers;
+      tallyFromNumbers = tally.fromNumbers;
       packetWordAt = packet.word-at;
       longAt = packet.long-at;
       headerWrong = packet.header-wrong;

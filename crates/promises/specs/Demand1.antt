@@ -11,6 +11,7 @@ use Rattle.promises.specs.calls.Register as register
 use Rattle.promises.specs.calls.Compare as compare
 use Rattle.promises.specs.calls.Health as health
 use Rattle.promises.specs.calls.Frame as frame
+use Rattle.promises.specs.calls.Tally as tally
 use Rattle.promises.specs.calls.SpacePacket as packet
 use Rattle.promises.specs.calls.Command as command
 use Rattle.promises.specs.calls.Event as event
@@ -18,7 +19,7 @@ use Rattle.promises.specs.calls.Reel as reel
 use Rattle.promises.specs.calls.Program as program
 
 -- The calls. Each accepts every input, and refuses what the rules refuse, with the first cause that applies in the order of FORMAT, "Refusal numbers"; beside
--- the number stand zeros, and lent room is as it was. Else the number is 0, the answer is the definition's, and there is no other.
+-- the number stand zeros, and what is lent is as it was. Else the number is 0, the answer is the definition's, and there is no other.
 pub record Calls : Type 0 where
   pub survey : Answers chunk.survey
   pub chunkAt : Answers chunk.at
@@ -44,6 +45,9 @@ pub record Calls : Type 0 where
   pub frameAt : Answers frame.at
   pub judgeFrame : Answers frame.judge
   pub readFrame : Answers frame.read
+  pub tallyOf : Answers tally.of
+  pub tallyAdded : Answers tally.added
+  pub addToTally : Answers tally.add
   pub judgeCommand : Answers command.judge
   pub commandFirst : Answers command.first
   pub readCommand : Answers command.read
@@ -101,6 +105,9 @@ pub record Total : Type 0 where
   pub soundAt : Determined health.soundAt
   pub starts : Determined frame.starts
   pub nextPiece : Determined frame.next
+  pub emptyTally : Determined tally.empty
+  pub tallyNumbers : Determined tally.numbers
+  pub tallyFromNumbers : Determined tally.fromNumbers
   pub packetWordAt : Determined packet.wordAt
   pub longAt : Determined packet.longAt
   pub headerWrong : Determined packet.headerWrong

@@ -1,5 +1,5 @@
 -- The function of `chunk_register`. The checker makes no plain claims of a contract where a slice of structs is lent, so they are read here off the
--- contract's own clauses, by the rules by which the checker reads every other.
+-- contract's own clauses, by the rules by which the checker reads others.
 use mathlib.Core.Path.{refl}
 use mathlib.Core.Bool.{false}
 use mathlib.Core.Option.{some}

@@ -1,4 +1,4 @@
--- `compare::hear`: a file that is not refused has a sync word, and its words end within the room; a refused one has none.
+-- `program_files::hear`: a file that is not refused has a sync word, and its words end within the room; a refused one has none.
 use mathlib.Core.Path.{_≡_, ap, _∙_}
 use Prim.Native.Nat.{ℕ, _+_, _≤_}
 use native.Mathlib.Omega.{arith}
@@ -12,8 +12,8 @@ use Rattle.base.proofs.Booleans.{by-test}
 use Rattle.base.proofs.Refused.{answer-no, settled-refusal}
 use Rattle.program_input.specs.Input.{wordsCauses, wordsReply}
 use Rattle.program_input.proofs.Joining.{accepted-length, room-length}
-use Rattle.compare.proofs.hear.Statement.{statement}
-use Rattle.compare.proofs.hear.Tie as tie
+use Rattle.program_files.proofs.hear.Statement.{statement}
+use Rattle.program_files.proofs.hear.Tie as tie
 
 -- what is refused has no words
 refused-length : (n most m : ℕ) (r : Written) → r ≡ wordsReply n most m → (r .refusal ≡ 0 → ⊥) → r .length .0 ≡ 0

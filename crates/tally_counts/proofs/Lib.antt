@@ -1,0 +1,4 @@
+pub mod Thirty
+pub mod Summing
+pub mod Keeping
+pub mod Answers

@@ -1,0 +1,4 @@
+pub mod Numbers
+pub mod Tally
+pub mod Replies
+pub mod Walk
