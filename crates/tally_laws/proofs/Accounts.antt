@@ -23,6 +23,7 @@ use Rattle.frame.specs.Shape.{starts, complete}
 use Rattle.frame.specs.Pieces.{piecesOf}
 use Rattle.tally_recording.specs.Numbers.{howOften, each}
 use Rattle.tally_recording.specs.Tally.{sort, chunkNumbers, packetNumbers, isComplete, isCut, tallyOf}
+use Rattle.tally_recording.proofs.Gathering.{sort-few}
 use Rattle.tally_laws.specs.Accounts.{total, imageUnits, EveryNumberIsAccountedFor}
 use Rattle.tally_laws.proofs.Counting.{one, all-counted, none-twice, often-same, often-either}
 use Rattle.tally_laws.proofs.Joined.{begins, carries, starts-kept, continuations-told}
@@ -34,16 +35,9 @@ use Rattle.tally_laws.proofs.Units.{units-counted, units-found}
 abbrev sorted : ℕ → Entry → Bool
 sorted s e = eqb (sort (e .header)) s
 
-sort-small : (h : ℕ) → sort h < 5
-sort-small h = by-kind (eqb (kind h) 0)
-  where
-    by-kind : (b : Bool) → cond b (camera h) 4 < 5
-    by-kind true = omega arith
-    by-kind false = omega arith
-
 chunks-counted : (es : List Entry) → total (chunkNumbers es) ≡ length es
 unfolding chunkNumbers
-chunks-counted es = all-counted 0 5 (λ (e : Entry). sort (e .header)) (λ e. (omega arith, omega (arith, sort-small (e .header)))) es
+chunks-counted es = all-counted 0 5 (λ (e : Entry). sort (e .header)) (λ e. (omega arith, omega (arith, sort-few (e .header)))) es
 
 -- ---- frames
 

@@ -7,7 +7,7 @@ use native.Mathlib.Omega.{arith}
 use Rattle.base.specs.Limit.{tooLong}
 use Rattle.base.specs.Refusal.{wrongLength, unspecified, verdict}
 use Rattle.base.proofs.Booleans.{by-test}
-use Rattle.base.proofs.Refused.{answer-yes, answer-no, answer-number}
+use Rattle.base.proofs.Refused.{answer-yes, answer-no}
 use Rattle.tally_recording.specs.declared.Tally.{Tally}
 use Rattle.tally_recording.specs.declared.Counted.{Counted}
 use Rattle.tally_recording.specs.Numbers.{anyPast}
@@ -17,6 +17,7 @@ use Rattle.tally_counts.specs.Numbers.{Rows, numbersOf, plus}
 use Rattle.tally_counts.specs.Adding.{addCauses, addedReply}
 use Rattle.tally_recording.proofs.Rows.{none-past}
 use Rattle.tally_counts.proofs.Answers.{rows-of}
+use Rattle.tally_counts.proofs.Keeping.{added-number}
 use Rattle.tally_laws.specs.Refusals.{numberAt, Passes, Fits, SevenExactly, Agree, AddGivesAdded}
 use Rattle.tally_laws.proofs.Rows.{past-place, places-fit, rows-plus, thirty, plus-at}
 use Rattle.tally_laws.proofs.Adding.{accepted, accepts, added-sum, added-kept}
@@ -82,9 +83,8 @@ module _ (t : Tally) (sync : ℕ) (ws : List ℕ) where
   abbrev given : Counted
   given = counted 0 (plus t (tallyOf sync ws))
 
-  number : addedReply t sync ws .refusal ≡ v
-  unfolding addedReply
-  number = answer-number (λ (c : Counted). c .refusal) v refused given refl (λ z. refl)
+  abbrev number : addedReply t sync ws .refusal ≡ v
+  number = added-number t sync ws
 
   agree : Agree t sync ws
   unfolding addedReply

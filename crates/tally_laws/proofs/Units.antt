@@ -4,7 +4,7 @@ use mathlib.Core.Path.{_≡_, refl, ap, _∙_}
 use mathlib.Core.Bool.{Bool, true, false, cond}
 use mathlib.Core.List.{List, [], _∷_}
 use mathlib.Core.Logic.{inl, inr}
-use Prim.Native.Nat.{ℕ, zero, suc, _+_, _-_, _≤_, _<_}
+use Prim.Native.Nat.{ℕ, zero, suc, _-_, _≤_, _<_}
 use native.Mathlib.Omega.{arith}
 use native.Mathlib.Numerals.{add-one}
 use lib.ListN.{length, getD, drop}
@@ -30,9 +30,9 @@ use Rattle.frame.proofs.Chunks.{image-size, image-fair, payload-length}
 use Rattle.tally_recording.specs.Numbers.{howOften}
 use Rattle.tally_recording.specs.Tally.{unitNumbers, images}
 use Rattle.tally_recording.proofs.Rows.{each-same}
-use Rattle.tally_recording.proofs.Bound.{images-one}
+use Rattle.tally_recording.proofs.Bound.{many-often, images-one}
 use Rattle.tally_laws.specs.Accounts.{total, imageUnits, findingNumber}
-use Rattle.tally_laws.proofs.Counting.{one, all-counted}
+use Rattle.tally_laws.proofs.Counting.{all-counted}
 
 -- ---- outcomes
 
@@ -56,15 +56,10 @@ outcome-small u =
     by-finding (dataBit w b) = omega arith
     by-finding neither = omega arith
 
-often-outcome : (k : ℕ) (us : List (List ℕ)) → howMany k us ≡ howOften (λ (u : List ℕ). eqb (outcome u) k) us
-unfolding howMany howOften
-often-outcome k [] = refl
-often-outcome k (u ∷ us) = ap (λ (n : ℕ). one (eqb (outcome u) k) + n) (often-outcome k us)
-
 pub units-counted : (us : List (List ℕ)) → total (unitNumbers us) ≡ length us
 unfolding unitNumbers
 units-counted us =
-    ap total (each-same 0 4 (λ k. howMany k us) (λ k. howOften (λ (u : List ℕ). eqb (outcome u) k) us) (λ k a b. often-outcome k us))
+    ap total (each-same 0 4 (λ k. howMany k us) (λ k. howOften (λ (u : List ℕ). eqb (outcome u) k) us) (λ k a b. many-often k us))
     ∙ all-counted 0 4 outcome (λ u. (omega arith, omega (arith, outcome-small u))) us
 
 -- a unit of 9 to 264 words

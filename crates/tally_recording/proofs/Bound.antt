@@ -33,12 +33,14 @@ unfolding howOften
 often-few test [] = omega arith
 often-few test (x ∷ xs) = by-test (test x) (λ t. rw t (omega (arith, often-few test xs))) (λ t. rw t (omega (arith, often-few test xs)))
 
-pub many-few : (k : ℕ) (us : List (List ℕ)) → howMany k us ≤ length us
-unfolding howMany
-many-few k [] = omega arith
-many-few k (u ∷ us) =
-    let test : Bool = eqb (outcomeOf (judgeReply u)) k in
-    by-test test (λ t. rw t (omega (arith, many-few k us))) (λ t. rw t (omega (arith, many-few k us)))
+-- units by outcome are such a count
+pub many-often : (k : ℕ) (us : List (List ℕ)) → howMany k us ≡ howOften (λ (u : List ℕ). eqb (outcomeOf (judgeReply u)) k) us
+unfolding howMany howOften
+many-often k [] = refl
+many-often k (u ∷ us) = ap (λ (n : ℕ). cond (eqb (outcomeOf (judgeReply u)) k) 1 0 + n) (many-often k us)
+
+many-few : (k : ℕ) (us : List (List ℕ)) → howMany k us ≤ length us
+many-few k us = rw (many-often k us) (often-few _ us)
 
 -- ---- what is counted is at most the listed words
 

@@ -1,26 +1,24 @@
 -- The units of a payload and of a chunk, counted.
 use mathlib.Core.Path.{_≡_, sym, ap, _∙_}
-use mathlib.Core.Bool.{true, false, cond}
+use mathlib.Core.Bool.{true, false}
 use mathlib.Core.List.{List, [], _∷_, _++_, append-nil}
 use Prim.Native.Nat.{ℕ, _+_, _≤_, _<_}
 use native.Mathlib.Omega.{arith}
-use native.Mathlib.Nat.{add-assoc}
 use lib.ListN.{length, getD}
 use lib.Dec.{eqb}
 use borrow.Author.Tests.{eq-eqb, ne-eqb}
 use Rattle.base.proofs.Booleans.{by-test}
 use Rattle.chunk.specs.declared.Entry.{Entry}
 use Rattle.chunk.specs.Header.{kind}
-use Rattle.parity.specs.Unit.{judgeReply}
 use Rattle.parity_units.specs.declared.Outcomes.{Outcomes}
 use Rattle.parity_units.specs.Split.{unitsIn}
-use Rattle.parity_units.specs.Replies.{outcomeOf, howMany, outcomes}
+use Rattle.parity_units.specs.Replies.{howMany, outcomes}
 use Rattle.frame.specs.Picture.{payloadOf, unitsOf}
 use Rattle.tally_recording.specs.Numbers.{each, sums, largest, anyPast}
 use Rattle.tally_recording.specs.Tally.{unitNumbers, images}
 use Rattle.tally_recording.specs.Walk.{chunkUnitNumbers}
-use Rattle.tally_recording.proofs.Rows.{each-length, each-same, each-place, sums-place, sums-each, sums-zeros, none-past, all-places}
-use Rattle.tally_recording.proofs.Bound.{images-one}
+use Rattle.tally_recording.proofs.Rows.{often-append, each-length, each-same, each-place, sums-place, sums-each, sums-zeros, none-past, all-places}
+use Rattle.tally_recording.proofs.Bound.{many-often, images-one}
 
 -- ---- the numbers of units
 
@@ -29,11 +27,7 @@ unfolding unitNumbers
 units-length us = each-length 0 4 (λ k. howMany k us)
 
 many-append : (k : ℕ) (us vs : List (List ℕ)) → howMany k (us ++ vs) ≡ howMany k us + howMany k vs
-unfolding howMany
-many-append k [] vs = omega arith
-many-append k (u ∷ us) vs =
-    let one : ℕ = cond (eqb (outcomeOf (judgeReply u)) k) 1 0 in
-    ap (λ (n : ℕ). one + n) (many-append k us vs) ∙ sym (add-assoc one (howMany k us) (howMany k vs))
+many-append k us vs = rw (many-often k (us ++ vs), many-often k us, many-often k vs) (often-append _ us vs)
 
 pub units-append : (us vs : List (List ℕ)) → unitNumbers (us ++ vs) ≡ sums (unitNumbers us) (unitNumbers vs)
 unfolding unitNumbers
