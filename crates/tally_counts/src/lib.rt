@@ -115,7 +115,8 @@ pub fn added(tally: Tally, recording: &[u16], sync: u16) -> Counted
 fn kept(old: Tally, next: Counted) -> Tally
     ensures { λ r. ⌜ r ≡ keptTally old next ⌝ }
 {
-    if next.refusal == 0 { next.tally } else { old }
+    let new = next.tally;
+    if next.refusal == 0 { new } else { old }
 }
 
 // One recording more to the caller's tally, which a refusal leaves as it is.

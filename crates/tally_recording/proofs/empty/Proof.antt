@@ -1,0 +1,10 @@
+-- `tally_recording::empty` meets its contract: zeros.
+use mathlib.Core.Path.{refl}
+use Rattle.tally_recording.proofs.empty.Statement.{statement}
+use Rattle.tally_recording.proofs.empty.Tie as tie
+
+returns : tie.Need-returns
+returns c = refl
+
+pub empty-spec : {M : Type 1} → statement M
+empty-spec = tie.close (tie.spec returns)
