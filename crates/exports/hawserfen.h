@@ -73,12 +73,12 @@ uint64_t hawserfen_read_reel(const uint16_t *reel, size_t words, uint16_t sync);
 uint64_t hawserfen_last_place(const uint16_t *science, size_t science_words, uint16_t sync, const uint16_t *health,
                               size_t health_words, uint16_t type);
 
-/* The packet reader, the 29 words after the time to the room: 1 the type, 2 the time. Refusals 1, 5, 7, and then 3, the room
-   has fewer than 29 words. */
+/* The packet reader, the 29 words after the time to the room: 1 the type, 2 the time. Refusals 1, 5, 7, and then 3, the
+   room has fewer than 29 words. */
 uint64_t hawserfen_read_packet(const uint16_t *packet, size_t words, uint16_t *room, size_t room_words);
 
-/* The command reader: 1 the further bytes, which stand from byte 12 on. Where it accepts, the fields become four words, from
-   the highest: the sequence count, the type times 256 and the qualifier, the address, the data; else they stay.
+/* The command reader: 1 the further bytes, which stand from byte 12 on. Where it accepts, the fields become four words,
+   from the highest: the sequence count, the type times 256 and the qualifier, the address, the data; else they stay.
    Refusals 4, 1, 9, 5, 8, 10, 11, 12. */
 uint64_t hawserfen_read_command(uint8_t catalogue, uint8_t mode, const uint8_t *bytes, size_t n, uint64_t *fields);
 
