@@ -1,5 +1,6 @@
 -- FORMAT, "Refusal numbers": the calls for C code, to which an answer is one number of four words: the refusal, then three parts.
-use Prim.Native.Nat.{ℕ, _+_, _*_, _/_, _^_}
+use Prim.Native.Nat.{ℕ, _+_, _-_, _*_, _/_, _^_, _<_}
+use mathlib.Core.Path.{_≡_}
 use mathlib.Core.Bool.{Bool, cond}
 use mathlib.Core.List.{List, [], _∷_, _++_}
 use lib.ListN.{length}
@@ -85,3 +86,34 @@ unpacked n =
 -- the fields n that a command reader is lent, after it has answered c: as they were where it refuses
 unfoldable pub fieldsAfter : Command → ℕ → ℕ
 fieldsAfter c n = answer (c .refusal) (λ v. n) (packed (c .fields))
+
+-- ---- what the words of a number say
+
+abbrev pub refusalOf : ℕ → ℕ
+refusalOf n = n / 2 ^ 48
+
+-- part 1, 2 or 3
+abbrev pub partOf : ℕ → ℕ → ℕ
+partOf i n = lowWord (n / 2 ^ (48 - 16 * i))
+
+-- no word of an answer runs into the next
+pub record Says (v a b c n : ℕ) : Type 0 where
+  pub refusal : refusalOf n ≡ v
+  pub first : partOf 1 n ≡ lowWord a
+  pub second : partOf 2 n ≡ lowWord b
+  pub third : partOf 3 n ≡ lowWord c
+
+-- the widths of the fields
+pub record Wide (f : Fields) : Type 0 where
+  pub sequence : f .sequence < 65536
+  pub type : f .«command_type» < 256
+  pub qualifier : f .qualifier < 256
+  pub address : f .address < 65536
+  pub word : f .«data» < 65536
+
+-- an answer says its parts, and the number of a command's fields gives them back; and FORMAT's examples: the frame, and the fields of the PATCH
+pub record WordsSayTheAnswer : Type 0 where
+  pub answer : (v a b c : ℕ) → Says v a b c (inWords v a b c)
+  pub fields : (f : Fields) → Wide f → unpacked (packed f) ≡ f
+  pub frame : inWords 0 1 6 (1 + (4 + 8)) ≡ 0x000000010006000D
+  pub patch : packed (record { sequence = 6; «command_type» = 2; qualifier = 1; address = 0x1F40; «data» = 3 }) ≡ 0x000602011F400003

@@ -8,6 +8,7 @@ use Rattle.chunk_outline.proofs.Longest.{runs-are-longest, only-runs}
 use Rattle.parity_laws.proofs.SingleFlip.{written-is-sound, one-flip-is-repaired, arrived-hold}
 use Rattle.parity_laws.proofs.Padded.{taken-as-padded}
 use Rattle.exports.proofs.Bytes.{bytes-say-the-reply}
+use Rattle.exports.proofs.Words.{words-say-the-answer}
 use Rattle.health_laws.proofs.RoundTrip.{written-is-read, sound-is-written}
 use Rattle.health_laws.proofs.Fields.{observation-is-read, checksums-are-read, upsets-are-read}
 use Rattle.health_laws.proofs.Modes.{modes}
@@ -42,6 +43,7 @@ demand-2 =
       flip = one-flip-is-repaired;
       padded = taken-as-padded;
       inBytes = bytes-say-the-reply;
+      inWords = words-say-the-answer;
       packet = written-is-read;
       packets = sound-is-written;
       observation = observation-is-read;

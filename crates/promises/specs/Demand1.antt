@@ -33,6 +33,16 @@ pub record Calls : Type 0 where
   pub checkUnit : Answers parity.checkUnit
   pub hawserfenJudgeUnit : Answers exports.judgeUnit
   pub hawserfenCheckUnit : Answers exports.checkUnit
+  pub hawserfenWriteUnit : Answers exports.writeUnit
+  pub hawserfenSurvey : Answers exports.survey
+  pub hawserfenOutline : Answers exports.outline
+  pub hawserfenReadFrame : Answers exports.readFrame
+  pub hawserfenWriteReel : Answers exports.writeReel
+  pub hawserfenReadReel : Answers exports.readReel
+  pub hawserfenLastPlace : Answers exports.lastPlace
+  pub hawserfenReadPacket : Answers exports.readPacket
+  pub hawserfenReadCommand : Answers exports.readCommand
+  pub hawserfenWriteCommand : Answers exports.writeCommand
   pub judgePacket : Answers health.judge
   pub readPacket : Answers health.readPacket
   pub writePacket : Answers health.writePacket
@@ -82,6 +92,8 @@ pub record Total : Type 0 where
   pub sixtyFour : Determined crc.sixtyFour
   pub crcWords : Determined crc.words
   pub crcBytes : Determined crc.bytes
+  pub hawserfenCrcWords : Determined exports.crcWords
+  pub hawserfenCrcBytes : Determined exports.crcBytes
   pub rowsParity : Determined parity.rowsParity
   pub statedParity : Determined parity.stated
   pub parityWords : Determined parity.parityWords

@@ -13,6 +13,7 @@ use Rattle.chunk_outline.specs.Runs.{RunsAreLongest, OnlyRuns}
 use Rattle.parity_laws.specs.Units as units
 use Rattle.parity_laws.specs.Padded.{TakenAsPadded}
 use Rattle.exports.specs.Reply.{BytesSayTheReply}
+use Rattle.exports.specs.Answer.{WordsSayTheAnswer}
 use Rattle.health_laws.specs.Written.{WrittenIsRead, SoundIsWritten}
 use Rattle.health_laws.specs.Fields.{ObservationIsRead, ChecksumsAreRead, UpsetsAreRead}
 use Rattle.health_laws.specs.Modes.{Modes}
@@ -58,6 +59,8 @@ pub record Demand2 : Type 0 where
   pub padded : TakenAsPadded
   -- the number that C code is answered says the reply, byte by byte, but for k
   pub inBytes : BytesSayTheReply
+  -- and the answer of every other call for C code says its parts, word by word, and a command's fields as one number are given back
+  pub inWords : WordsSayTheAnswer
   -- ---- health packets
 
   -- a written packet is read with its type, time and words; a packet that is accepted is the very one that is written for them
