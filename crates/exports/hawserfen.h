@@ -6,7 +6,7 @@
 
    What the caller owes: each pointer is not null and on an address that its type asks for, even for words, and as many
    words or bytes as are said stand there; a room, or the fields of a command, and what else is lent do not overlap;
-   during the call nobody else writes to what is lent, and nobody else reads a room or writes to it. Nothing checks this.
+   during the call nobody else writes to what is lent, and nobody else reads a room, or the fields. Nothing checks this.
    Any number of words or bytes, and any of them, are good.
 
    A room gets the result at its front. The rest of it, and on a refusal all of it, stays as it was. */
@@ -41,9 +41,9 @@ uint16_t hawserfen_crc_words(uint16_t start, const uint16_t *message, size_t wor
 
 uint16_t hawserfen_crc_bytes(uint16_t start, const uint8_t *message, size_t bytes);
 
-/* ---- all other calls: the answer is one number of four words, from the highest: the refusal, then three parts. Each call
-   below names its parts; the ones it does not name are 0. The refusal is 0 where the call is accepted, else a number of
-   docs/FORMAT.md, and the three parts are 0 then. A flag is 0 or 1. */
+/* ---- all other calls: the answer is one number of four words, from the highest: the refusal, then three parts. Each
+   call below names its parts; the ones it does not name are 0. The refusal is 0 where the call is accepted, else a
+   number of docs/FORMAT.md, and the three parts are 0 then. A flag is 0 or 1. */
 
 /* word i of four, from the highest: of an answer, 0 the refusal, 1 to 3 the parts */
 #define HAWSERFEN_PART(number, i) ((number) >> (48 - 16 * (i)) & 65535)
@@ -57,19 +57,20 @@ uint64_t hawserfen_survey(const uint16_t *recording, size_t words, uint16_t sync
 /* The outline: 1 the image runs, 2 the health runs. Refusal 1. */
 uint64_t hawserfen_outline(const uint16_t *recording, size_t words, uint16_t sync);
 
-/* The frame at a place, its data to the room: 1 the chunks, 2 the data words, 3 the camera, and 4 more if it is complete,
-   which it always is here, and 8 more if it has the mark. Refusals 1, 2, 14, 6, 3. */
+/* The frame at a place, its data to the room: 1 the chunks, 2 the data words, 3 the camera, 4 more as it is complete,
+   8 more if it has the mark. Refusals 1, 2, 14, 6, 3. */
 uint64_t hawserfen_read_frame(const uint16_t *recording, size_t words, uint16_t sync, size_t place, uint16_t *room,
                               size_t room_words);
 
 /* The reel writer: the reel of the recording to the room. 1 the words written. Refusals 1, 3. */
-uint64_t hawserfen_write_reel(const uint16_t *recording, size_t words, uint16_t sync, uint16_t *room, size_t room_words);
+uint64_t hawserfen_write_reel(const uint16_t *recording, size_t words, uint16_t sync, uint16_t *room,
+                              size_t room_words);
 
 /* The reel reader: 1 the words of the recording, which are the reel's first, 2 the entries. Refusals 1, 13. */
 uint64_t hawserfen_read_reel(const uint16_t *reel, size_t words, uint16_t sync);
 
-/* The newest packet of a type: 1 the recording where it stands, 1 science or 2 health, 2 its place there, 3 the mark of its
-   chunk. Refusals 4, 1, 2. */
+/* The newest packet of a type: 1 the recording where it stands, 1 science or 2 health, 2 its place there, 3 the mark of
+   its chunk. Refusals 4, 1, 2. */
 uint64_t hawserfen_last_place(const uint16_t *science, size_t science_words, uint16_t sync, const uint16_t *health,
                               size_t health_words, uint16_t type);
 
