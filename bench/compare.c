@@ -268,6 +268,22 @@ static void newest(const uint16_t *science, size_t words, uint16_t sync)
     }
 }
 
+/* Makes the CRC of a reel right, if the trailer's numbers are the reel's. */
+static bool put_trailer_crc(uint16_t *reel, size_t words)
+{
+    static uint8_t bytes[2 * LARGEST_ROOM];
+    size_t index = words - 4 - 2 * (size_t)reel[words - 4], covered = 0;
+    if (index != reel[words - 3]) {
+        return false;
+    }
+    for (size_t i = index; i < words - 2; i++) {
+        bytes[covered++] = (uint8_t)(reel[i] >> 8);
+        bytes[covered++] = (uint8_t)reel[i];
+    }
+    reel[words - 2] = slow_crc(0xFFFF, bytes, covered);
+    return true;
+}
+
 static void reel_readings(uint16_t *reel, size_t words, uint16_t sync)
 {
     struct task task = {.work = READ_REEL, .words = reel, .count = words, .sync = sync};
@@ -275,17 +291,16 @@ static void reel_readings(uint16_t *reel, size_t words, uint16_t sync)
     task.sync++;
     hold(task);
     task.sync = sync;
+    /* a wrong word in the index or the trailer, with the CRC that was there and with one that is right again */
     for (size_t back = 1; back <= 12 && back <= words; back++) {
-        /* a wrong index or trailer, also with a CRC that is right again */
-        reel[words - back] ^= (uint16_t)(1u << below(16));
+        uint16_t *wrong = reel + words - back, right = *wrong, crc = reel[words - 2];
+        *wrong ^= (uint16_t)(1u << below(16));
         hold(task);
-        size_t entries = reel[words - 4], n = reel[words - 3];
-        if (n + 2 * entries + 4 == words) {
-            uint16_t crc = reel[words - 2];
-            reel[words - 2] = plain_gcc.crc_words(0xFFFF, reel + n, 2 * entries + 2);
+        if (back != 2 && put_trailer_crc(reel, words)) {
             hold(task);
             reel[words - 2] = crc;
         }
+        *wrong = right;
         task.count = words - back;
         hold(task);
         task.count = words;
@@ -357,6 +372,18 @@ static void recordings(void)
     }
 }
 
+/* Header words, each of a chunk that ends with the recording: all with small sizes and large ones, and some between. */
+static void headers(void)
+{
+    static uint16_t words[2 + 8191] = {0x5AF3};
+    for (size_t kind_and_camera = 0; kind_and_camera < 8; kind_and_camera++) {
+        for (size_t size = 0; size < 8192; size += size < 540 || size > 8150 ? 1 : 11) {
+            words[1] = (uint16_t)(kind_and_camera << 13 | size);
+            hold((struct task){.work = SURVEY, .words = words, .count = 2 + size, .sync = 0x5AF3});
+        }
+    }
+}
+
 static void too_long(void)
 {
     static uint16_t words[MEMORY];
@@ -373,8 +400,18 @@ static void too_long(void)
             task.work = work;
             hold(task);
         }
-        task = (struct task){.work = LAST_PLACE, .words = words, .health = words, .health_count = count, .type = 4};
-        hold(task);
+    }
+    for (size_t count = LIMIT - 32; count <= LIMIT + 32; count++) {
+        hold((struct task){.work = LAST_PLACE, .words = words, .health = words, .health_count = count, .type = 4});
+    }
+    /* reels in which all agrees but that the recording may be too long */
+    for (size_t count = LIMIT - 1; count <= LIMIT + 2; count++) {
+        fill(words, count, 0x5AF3);
+        words[count] = 0;
+        words[count + 1] = (uint16_t)count;
+        words[count + 3] = 1;
+        put_trailer_crc(words, count + 4);
+        hold((struct task){.work = READ_REEL, .words = words, .count = count + 4, .sync = 0x5AF3});
     }
     for (size_t count = 38726; count <= 38730; count++) {
         hold((struct task){.work = READ_REEL, .words = words, .count = count, .sync = 0x5AF3});
@@ -489,6 +526,7 @@ bool compare(void)
     units();
     written_units();
     packets();
+    headers();
     recordings();
     too_long();
     most_chunks();
