@@ -51,6 +51,8 @@ static inline void keep_rows(uint64_t kept[KEPT_ROWS], const void *message, size
     const uint8_t *at = message;
     memcpy(kept, at, KEPT_ROWS * ROW_BYTES);
     uint64_t a = kept[0] ^ start, b = kept[1], c = kept[2], d = kept[3], next;
+/* in four steps each row is back in its register */
+#pragma GCC unroll 4
     for (size_t i = KEPT_ROWS; i < rows; i++) {
         memcpy(&next, at + ROW_BYTES * i, sizeof next);
         next ^= a;
@@ -149,7 +151,7 @@ static struct parities parities_of(const uint16_t *data, size_t words)
 
 /* ---- search ---- */
 
-enum { BLOCK = 32 };
+enum { BLOCK = 64 };
 
 static inline bool block_has(const uint16_t *words, uint16_t sync)
 {

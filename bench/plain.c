@@ -65,7 +65,8 @@ static struct parities parities_of(const uint16_t *data, size_t words)
 
 static bool next_chunk(const struct recording *r, struct chunk *chunk)
 {
-    for (size_t place = chunk->end; place < r->words; place++) {
+    /* no header stands at the last word */
+    for (size_t place = chunk->end; place + 1 < r->words; place++) {
         size_t end = chunk_end(r, place);
         if (end != 0) {
             *chunk = (struct chunk){place, end};

@@ -344,7 +344,7 @@ static void commands(void)
 static void growth(void)
 {
     static const size_t sizes[] = {1024, 4096, 16384, 32768};
-    next_row->table = "Growth: on longer inputs the time per word stays the same. memcpy is the memory's own speed.";
+    next_row->table = "Growth: the same work on longer inputs, again per word. memcpy is the memory's own speed.";
     for (size_t i = 0; i < 4; i++) {
         survey_noise(sizes[i]);
     }

@@ -161,9 +161,11 @@ struct frame {
 static unsigned find_frame(const struct recording *r, size_t place, struct frame *frame)
 {
     struct chunk c = {0, 0};
-    while (next_chunk(r, &c) && c.place < place) {
+    bool listed = next_chunk(r, &c);
+    while (listed && c.place < place) {
+        listed = next_chunk(r, &c);
     }
-    if (c.end == 0 || c.place != place || is_health(r->at[place + 1]) || camera_of(r->at[place + 1]) == 0) {
+    if (!listed || c.place != place || is_health(r->at[place + 1]) || camera_of(r->at[place + 1]) == 0) {
         return NOTHING_THERE;
     }
     *frame = (struct frame){.camera = camera_of(r->at[place + 1])};
