@@ -13,7 +13,7 @@ use lib.ListN.{length}
 use Rattle.base.specs.Xor.{_xor_}
 use Rattle.parity_rows.specs.declared.Sums.{Sums}
 use Rattle.parity_rows.specs.Parity.{xorAll, number, bitFrom, rowParity, columnParity, rowWord, columnWord, parityWords, sums, parities}
-use Rattle.parity_rows.specs.ByRows.{oneMore}
+use Rattle.parity_rows.specs.ByRows.{oneMore, rowOf, sumsOf}
 use Rattle.parity_rows.proofs.Folds.{xor-more, number-more, xor-parts, number-parts, xor-none, number-none, number-lt, number-xorAll, xorAll-lt}
 use Rattle.parity_rows.proofs.Words.{from-lt, from-past}
 use Rattle.parity_rows.proofs.Ones.{odd-ones}
@@ -27,14 +27,6 @@ unfolding columnParity
 column-lt d c = xorAll-lt 64 (λ r. bitFrom d (4 * r) c) (λ r. from-lt d (4 * r) c)
 
 -- ---- row by row
-
--- row r as one number
-abbrev rowOf : List ℕ → ℕ → ℕ
-rowOf d r = number 64 (bitFrom d (4 * r))
-
--- the sums of the first n rows
-abbrev pub sumsOf : List ℕ → ℕ → Sums
-sumsOf d n = sums (number n (rowParity d) * 2 ^ (64 - n)) (xorAll n (rowOf d))
 
 row-odd : (d : List ℕ) (r : ℕ) → ones (rowOf d r) % 2 ≡ rowParity d r
 unfolding rowParity

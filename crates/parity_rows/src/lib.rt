@@ -3,10 +3,11 @@ use base::Words;
 use base::number;
 use base::size::PARITY;
 ghost use mathlib.Core.Path.{_≡_};
-ghost use Prim.Native.Nat.{_<_, _≤_};
+ghost use Prim.Native.Nat.{_+_, _*_, _<_, _≤_};
+ghost use lib.ListN.{length};
 ghost use Rattle.base.specs.Size.{dataWidth};
 ghost use Rattle.parity_rows.specs.Parity.{number, bitFrom, parityWords, parities, statedParity};
-ghost use Rattle.parity_rows.specs.ByRows.{pack, oneMore};
+ghost use Rattle.parity_rows.specs.ByRows.{pack, loaded, exchanged, oneMore, sumsOf};
 
 // A digit for each row and one for each column, the first highest.
 pub struct Sums {
@@ -20,12 +21,36 @@ fn pack_row(a: u16, b: u16, c: u16, d: u16) -> u64
     ((a as u64) << 48) | ((b as u64) << 32) | ((c as u64) << 16) | (d as u64)
 }
 
+// The four words at a place as one number, the first lowest, as one load of 64 bits gives them.
+fn load(words: &[u16], at: Words) -> u64
+    requires { ⌜ at .0 + 4 ≤ length (now words) ⌝ }
+    ensures { λ r. ⌜ r ≡ loaded (now (words .entry)) (at .0) ⌝ }
+{
+    let i = at.0;
+    pack_row(words[i + 3], words[i + 2], words[i + 1], words[i])
+}
+
+// Four words the other way round.
+fn exchange(x: u64) -> u64
+    ensures { λ r. ⌜ r ≡ exchanged x ⌝ }
+{
+    pack_row(
+        number::low_word(x),
+        number::low_word(x >> 16),
+        number::low_word(x >> 32),
+        number::low_word(x >> 48),
+    )
+}
+
 // The 64 bits from a word on as one number, the first bit highest.
 fn bits_from(words: &[u16], at: Words) -> u64
     requires { ⌜ at .0 ≤ dataWidth ⌝ }
     ensures { λ r. ⌜ r ≡ number 64 (bitFrom (now (words .entry)) (at .0)) ⌝ }
 {
     let first = at.0;
+    if first + 4 <= words.len() {
+        return exchange(load(words, at));
+    }
     pack_row(
         base_room::word_at(words, Words(first)),
         base_room::word_at(words, Words(first + 1)),
@@ -46,23 +71,37 @@ fn add(s: Sums, w: u64, r: usize) -> Sums
     }
 }
 
-// The parity of every row and every column of the data: rows past its end add nothing.
-pub fn parity(data: &[u16]) -> Sums
-    ensures { λ s. ⌜ s ≡ parities (now («data» .entry)) ⌝ }
+// The sums of the first rows, all of them whole. Words stay as they are loaded up to the end, so that the loop has no more than a load and a count of
+// ones for each row.
+fn whole_rows(data: &[u16], count: usize) -> Sums
+    requires { ⌜ (count ≤ 64) × (4 * count ≤ length (now «data»)) ⌝ }
+    ensures { λ s. ⌜ s ≡ sumsOf (now («data» .entry)) count ⌝ }
 {
     let mut s = Sums {
         rows: 0,
         columns: 0,
     };
     let mut r = 0;
-    while r < 64 {
-        if data.len() <= 4 * r {
-            return s;
-        }
-        s = add(s, bits_from(data, Words(4 * r)), r);
+    while r < count {
+        s = add(s, load(data, Words(4 * r)), r);
         r += 1;
     }
-    s
+    Sums {
+        rows: s.rows,
+        columns: exchange(s.columns),
+    }
+}
+
+// The parity of every row and every column of the data: rows past its end add nothing.
+pub fn parity(data: &[u16]) -> Sums
+    ensures { λ s. ⌜ s ≡ parities (now («data» .entry)) ⌝ }
+{
+    let whole = data.len() / 4;
+    if 64 <= whole {
+        return whole_rows(data, 64);
+    }
+    let last = bits_from(data, Words(4 * whole));
+    add(whole_rows(data, whole), last, whole)
 }
 
 // The parity that a unit's parity words state.
