@@ -19,7 +19,9 @@ use Rattle.chunk.specs.declared.Entry.{Entry}
 use Rattle.chunk.specs.Header.{confirmed}
 use Rattle.chunk.specs.Reading.{leftAt, listedAt}
 use Rattle.chunk.proofs.Steps.{confirmed-bounds}
+use Rattle.parity_units.specs.declared.Harm.{Harm}
 use Rattle.parity_units.specs.Split.{anyDamaged, givenData, dataWords}
+use Rattle.parity_units.specs.Replies.{anyTouched, harmTo}
 use Rattle.frame.specs.declared.Description.{Description}
 use Rattle.frame.specs.declared.Piece.{Piece}
 use Rattle.frame.specs.Shape.{starts, frameChunks, complete}
@@ -34,6 +36,10 @@ use Rattle.frame.proofs.Joining.{entryAt, confirmed-inside, next-here}
 use Rattle.frame.proofs.Walking.{longer-than-header}
 use Rattle.frame.proofs.Stepping.{frame-next}
 use Rattle.frame_reading.proofs.Rows.{frame-units, frame-within, frame-data}
+
+-- a refusal is no 0
+pub refused-not : (n : ℕ) → 0 < n → (r : Frame) → r ≡ refused n → r .refusal ≡ 0 → ⊥
+refused-not n h r e z = omega (arith, ap (λ (f : Frame). f .refusal) e)
 
 -- ---- the place
 
@@ -71,7 +77,7 @@ module _ (sync p : ℕ) (ws : List ℕ) where
   here = drop p ws
 
   -- these words, as a part of the recording
-  abbrev part : List ℕ
+  abbrev pub part : List ℕ
   part = take (length ws - p) (drop p ws)
 
   module _ (v : verdict (atCauses sync ws p) ≡ 0) where
@@ -177,11 +183,14 @@ module _ (sync p : ℕ) (ws : List ℕ) where
       unfolding answer
       cut c = ap (λ (b : Bool). answer (verdict ((frameCut, not b) ∷ (wrongParity, anyDamaged (frameUnits sync here)) ∷ [])) refused r) (sym c ∙ complete-here) ∙ by-cut-and-damage
 
-      module _ (c : r .complete ≡ true) (b : Bool) (d : b ≡ anyDamaged (unitsAlong (r .chunks) part)) where
+      -- what is found of the chunks is found of the frame's units
+      pub harm-here : {h : Harm} → h ≡ harmTo (unitsAlong (r .chunks) part) → h ≡ harmTo (frameUnits sync here)
+      harm-here e = e ∙ ap harmTo (units-here (starts-here at-accepted) r as-described)
+
+      module _ (c : r .complete ≡ true) (b : Bool) (d : b ≡ anyDamaged (frameUnits sync here)) where
         by-damage : answer (verdict ((frameCut, not true) ∷ (wrongParity, b) ∷ [])) refused r ≡ judgeReply sync ws p
         by-damage =
-            ap₂ (λ (x y : Bool). answer (verdict ((frameCut, not x) ∷ (wrongParity, y) ∷ [])) refused r) (sym c ∙ complete-here)
-            (d ∙ ap anyDamaged (units-here (starts-here at-accepted) r as-described))
+            ap₂ (λ (x y : Bool). answer (verdict ((frameCut, not x) ∷ (wrongParity, y) ∷ [])) refused r) (sym c ∙ complete-here) d
             ∙ by-cut-and-damage
 
         pub damaged : b ≡ true → refused wrongParity ≡ judgeReply sync ws p
@@ -243,6 +252,9 @@ module _ (sync p : ℕ) (ws : List ℕ) where
 
       pub read-inside : p ≤ length ws
       read-inside = place-inside at-accepted-too
+
+      pub read-untouched : (t : Bool) → t ≡ anyTouched (frameUnits sync here) → t ≡ false → anyTouched (unitsAlong (r .chunks) part) ≡ false
+      read-untouched t e f = ap anyTouched units-read ∙ sym e ∙ f
 
       -- what is asked for the data
       pub ready : (wordsAlong (r .chunks) part ≤ length part) × (dataWords (unitsAlong (r .chunks) part) ≤ length room)

@@ -9,8 +9,10 @@ use frame::Description;
 use frame::Piece;
 use frame::pieces;
 ghost use mathlib.Core.Path.{_≡_};
-ghost use lib.ListN.{length};
+ghost use lib.ListN.{length, drop};
 ghost use Rattle.base.specs.Refusal.{verdict};
+ghost use Rattle.parity_units.specs.Replies.{anyTouched};
+ghost use Rattle.frame.specs.Picture.{frameUnits};
 ghost use Rattle.frame_reading.specs.Replies.{refused, told, atCauses, atReply, judgeReply, readReply, readRoom};
 
 // The reply of every call here: what is said of a frame; zeros and false where it is refused.
@@ -21,6 +23,21 @@ pub struct Frame {
     pub complete: bool,
     pub length: Words,
     pub end: bool,
+}
+
+// A reply, and whether the data of a unit are not as they stand in it: where none are, they need no second look.
+struct Inspected {
+    frame: Frame,
+    touched: bool,
+}
+
+fn untouched(frame: Frame) -> Inspected
+    ensures { λ r. ⌜ r .frame ≡ frame ⌝ }
+{
+    Inspected {
+        frame,
+        touched: false,
+    }
 }
 
 fn refused(number: u8) -> Frame
@@ -86,36 +103,50 @@ pub fn at(recording: &[u16], sync: u16, place: Words) -> Frame
     }
 }
 
+// Whether the frame's data can be had, and whether some of them are touched.
+fn inspect(recording: &[u16], sync: u16, place: Words) -> Inspected
+    ensures { λ r. ⌜ r .frame ≡ judgeReply sync (now (recording .entry)) (place .0) ⌝ }
+    ensures { λ r. ⌜ (r .frame .refusal ≡ 0 → r .touched ≡ anyTouched (frameUnits sync (drop (place .0) (now (recording .entry))))) ⌝ }
+{
+    let frame = at(recording, sync, place);
+    if frame.refusal != 0 {
+        return untouched(frame);
+    }
+    if !frame.complete {
+        return untouched(refused(refusal::FRAME_CUT));
+    }
+    let begins = place.0;
+    let harm = picture::inspect(&recording[begins..], frame.chunks);
+    if harm.damaged {
+        return untouched(refused(refusal::PARITY));
+    }
+    Inspected {
+        frame,
+        touched: harm.touched,
+    }
+}
+
 // Whether the frame's data can be had: it is complete, and no unit of it is refused.
 pub fn judge(recording: &[u16], sync: u16, place: Words) -> Frame
     ensures { λ r. ⌜ r ≡ judgeReply sync (now (recording .entry)) (place .0) ⌝ }
 {
-    let frame = at(recording, sync, place);
-    if frame.refusal != 0 {
-        return frame;
-    }
-    if !frame.complete {
-        return refused(refusal::FRAME_CUT);
-    }
-    let begins = place.0;
-    if picture::damaged(&recording[begins..], frame.chunks) {
-        return refused(refusal::PARITY);
-    }
-    frame
+    inspect(recording, sync, place).frame
 }
 
 // The reader's reply, for a room of so many words.
-fn look(recording: &[u16], sync: u16, place: Words, room: Words) -> Frame
-    ensures { λ r. ⌜ r ≡ readReply sync (now (recording .entry)) (place .0) (room .0) ⌝ }
+fn look(recording: &[u16], sync: u16, place: Words, room: Words) -> Inspected
+    ensures { λ r. ⌜ r .frame ≡ readReply sync (now (recording .entry)) (place .0) (room .0) ⌝ }
+    ensures { λ r. ⌜ (r .frame .refusal ≡ 0 → r .touched ≡ anyTouched (frameUnits sync (drop (place .0) (now (recording .entry))))) ⌝ }
 {
-    let frame = judge(recording, sync, place);
+    let inspected = inspect(recording, sync, place);
+    let frame = inspected.frame;
     if frame.refusal != 0 {
-        return frame;
+        return inspected;
     }
     if room.0 < frame.length.0 {
-        return refused(refusal::ROOM);
+        return untouched(refused(refusal::ROOM));
     }
-    frame
+    inspected
 }
 
 // The frame's data to the room.
@@ -123,11 +154,12 @@ pub fn read(recording: &[u16], sync: u16, place: Words, room: &mut [u16]) -> Fra
     ensures { λ r. ⌜ r ≡ readReply sync (now (recording .entry)) (place .0) (length (now (room .entry))) ⌝ }
     ensures { λ _. ⌜ now (room .exit) ≡ readRoom sync (now (recording .entry)) (place .0) (now (room .entry)) ⌝ }
 {
-    let frame = look(recording, sync, place, Words(room.len()));
+    let looked = look(recording, sync, place, Words(room.len()));
+    let frame = looked.frame;
     if frame.refusal != 0 {
         return frame;
     }
     let start = place.0;
-    picture::data(&recording[start..], frame.chunks, room);
+    picture::data(&recording[start..], frame.chunks, looked.touched, room);
     frame
 }

@@ -9,10 +9,11 @@ use parity::Judged;
 ghost use mathlib.Core.Path.{_≡_};
 ghost use mathlib.Core.Bool.{cond};
 ghost use Prim.Native.Nat.{_+_, _-_, _≤_, min};
-ghost use lib.ListN.{length};
-ghost use Rattle.base.specs.Size.{unitWidth};
+ghost use lib.ListN.{length, drop};
+ghost use lib.Dec.{leb};
+ghost use Rattle.base.specs.Size.{parityWidth, unitWidth};
 ghost use Rattle.parity_units.specs.Split.{unitsIn, anyDamaged, dataWordsIn};
-ghost use Rattle.parity_units.specs.Replies.{joinReply, joinRoom, outcomeOf, outcomes};
+ghost use Rattle.parity_units.specs.Replies.{joinReply, joinRoom, copyReply, copyRoom, outcomeOf, outcomes, harmTo};
 
 // How many units there are of each outcome.
 pub struct Outcomes {
@@ -20,6 +21,13 @@ pub struct Outcomes {
     pub hit: usize,
     pub repaired: usize,
     pub refused: usize,
+}
+
+// What is found of all units of a payload: whether one is refused with 6, and whether the data of one are not given as they stand, for it is refused or
+// a data bit of it was hit.
+pub struct Harm {
+    pub damaged: bool,
+    pub touched: bool,
 }
 
 // The data words of a payload of n words.
@@ -45,20 +53,51 @@ fn unit_end(at: Words, n: Words) -> Words
     Words(at.0 + UNIT.0)
 }
 
+// What becomes of a unit: 0 sound, 1 a parity bit was hit, 2 repaired, 3 refused.
+fn outcome_of(unit: Judged) -> u8
+    ensures { λ r. ⌜ r ≡ outcomeOf unit ⌝ }
+{
+    if unit.refusal == 0 { unit.case } else { 3 }
+}
+
+// Whether a unit of the payload is refused with 6, and whether the data of one are not given as they stand.
+pub fn inspect(payload: &[u16]) -> Harm
+    ensures { λ r. ⌜ r ≡ harmTo (unitsIn (now (payload .entry))) ⌝ }
+{
+    let n = payload.len();
+    let mut damaged = false;
+    let mut touched = false;
+    let mut at = 0;
+    while at < n {
+        let end = unit_end(Words(at), Words(n)).0;
+        let unit = parity::judge_unit(&payload[at..end]);
+        let outcome = outcome_of(unit);
+        damaged = damaged | (unit.refusal == refusal::PARITY);
+        touched = touched | (1 < outcome);
+        at = end;
+    }
+    Harm { damaged, touched }
+}
+
 // Whether a unit of the payload is refused with 6.
 pub fn damaged(payload: &[u16]) -> bool
     ensures { λ r. ⌜ r ≡ anyDamaged (unitsIn (now (payload .entry))) ⌝ }
 {
-    let n = payload.len();
-    let mut at = 0;
-    while at < n {
-        let end = unit_end(Words(at), Words(n)).0;
-        if parity::judge_unit(&payload[at..end]).refusal == refusal::PARITY {
-            return true;
-        }
-        at = end;
+    inspect(payload).damaged
+}
+
+// Whether a room of so many words has room for the data of a payload of n words, from a place on.
+fn fits(n: Words, place: Words, room: Words) -> bool
+    ensures { λ r. ⌜ r ≡ leb (place .0 + dataWordsIn (n .0)) (room .0) ⌝ }
+{
+    let most = data_words(n).0;
+    if room.0 < most {
+        return false;
     }
-    false
+    if room.0 - most < place.0 {
+        return false;
+    }
+    true
 }
 
 // The data of the payload's accepted units, joined, to a place of the room, where it has room for the data of all units; the number of words written.
@@ -68,11 +107,7 @@ pub fn join(payload: &[u16], room: &mut [u16], place: Words) -> Words
 {
     let n = payload.len();
     let from = place.0;
-    let most = data_words(Words(n)).0;
-    if room.len() < most {
-        return Words(0);
-    }
-    if room.len() - most < from {
+    if !fits(Words(n), place, Words(room.len())) {
         return Words(0);
     }
     let mut at = 0;
@@ -86,11 +121,38 @@ pub fn join(payload: &[u16], room: &mut [u16], place: Words) -> Words
     Words(to - from)
 }
 
-// What becomes of a unit: 0 sound, 1 a parity bit was hit, 2 repaired, 3 refused.
-fn outcome_of(unit: Judged) -> u8
-    ensures { λ r. ⌜ r ≡ outcomeOf unit ⌝ }
+// The words after the parity words of a unit.
+fn data_of(unit: &[u16]) -> &[u16]
+    ensures { λ r. ⌜ now r ≡ drop parityWidth (now (unit .entry)) ⌝ }
 {
-    if unit.refusal == 0 { unit.case } else { 3 }
+    let n = unit.len();
+    let first = PARITY.0;
+    if n < first {
+        return &unit[n..];
+    }
+    &unit[first..]
+}
+
+// The data of the payload's units as they stand, joined, in the same way: what `join` gives where `inspect` says that no data were touched.
+pub fn copy(payload: &[u16], room: &mut [u16], place: Words) -> Words
+    ensures { λ r. ⌜ r .0 ≡ copyReply (now (payload .entry)) (place .0) (length (now (room .entry))) ⌝ }
+    ensures { λ _. ⌜ now (room .exit) ≡ copyRoom (now (payload .entry)) (place .0) (now (room .entry)) ⌝ }
+{
+    let n = payload.len();
+    let from = place.0;
+    if !fits(Words(n), place, Words(room.len())) {
+        return Words(0);
+    }
+    let mut at = 0;
+    let mut past = from;
+    while at < n {
+        let end = unit_end(Words(at), Words(n)).0;
+        let data = data_of(&payload[at..end]);
+        base_room::put_words(data, room, Words(past));
+        past += data.len();
+        at = end;
+    }
+    Words(past - from)
 }
 
 fn one_if(test: bool) -> usize

@@ -2,7 +2,7 @@
 use Prim.Native.Nat.{_≤_}
 use native.Mathlib.Omega.{arith}
 use lib.ListN.{length}
-use Rattle.frame_reading.proofs.Asking.{read-inside, untouched, ready, written}
+use Rattle.frame_reading.proofs.Asking.{read-inside, untouched, read-untouched, ready, written}
 use borrow.Author.Needs.{needs}
 use Rattle.frame_reading.proofs.read.Statement.{statement}
 use Rattle.frame_reading.proofs.read.Tie as tie
@@ -10,16 +10,16 @@ use Rattle.frame_reading.proofs.read.Tie as tie
 -- nothing is refused
 module _ (c : tie.Else1) where
   abbrev a : tie.Start
-  a = c .before .before .before .before .before
+  a = c .before .before .before .before .before .before
 
   inside : a .args .place .0 ≤ length (a .args .recording .now)
-  inside = read-inside (a .args .sync) (a .args .place .0) (a .args .recording .now) (a .args .room .now) _ (c .before .before .look .ensures) (c .if1 .left)
+  inside = read-inside (a .args .sync) (a .args .place .0) (a .args .recording .now) (a .args .room .now) _ (c .before .before .before .look .ensures .0) (c .if1 .left)
 
 returns : tie.Need-returns
 returns c =
-    let a = c .before .before .before .before .before in (
-      c .before .before .look .ensures,
-      untouched (a .args .sync) (a .args .place .0) (a .args .recording .now) (a .args .room .now) _ (c .before .before .look .ensures) (c .if1 .taken),
+    let a = c .before .before .before .before .before .before in (
+      c .before .before .before .look .ensures .0,
+      untouched (a .args .sync) (a .args .place .0) (a .args .recording .now) (a .args .room .now) _ (c .before .before .before .look .ensures .0) (c .if1 .taken),
     )
 
 mul-data : tie.Need-mul-data
@@ -34,13 +34,16 @@ part-data-start c = let i = inside c in search needs
 data-requires : tie.Need-data-requires
 data-requires c κs =
     let t = c .before .before in
-    ready (a t .args .sync) (a t .args .place .0) (a t .args .recording .now) (a t .args .room .now) _ (t .before .before .look .ensures) (t .if1 .left)
+    let touch = read-untouched (a t .args .sync) (a t .args .place .0) (a t .args .recording .now) (a t .args .room .now) _ (t .before .before .before .look .ensures .0) (t .if1 .left)
+    _ (t .before .before .before .look .ensures .1 (t .if1 .left)) in
+    let d = ready (a t .args .sync) (a t .args .place .0) (a t .args .recording .now) (a t .args .room .now) _ (t .before .before .before .look .ensures .0) (t .if1 .left) in
+    (d .0, (d .1, touch))
 
 returns-2 : tie.Need-returns-2
 returns-2 c =
     let t = c .before .before .before .before .before in (
-      t .before .before .look .ensures,
-      written (a t .args .sync) (a t .args .place .0) (a t .args .recording .now) (a t .args .room .now) _ (t .before .before .look .ensures) (t .if1 .left) _
+      t .before .before .before .look .ensures .0,
+      written (a t .args .sync) (a t .args .place .0) (a t .args .recording .now) (a t .args .room .now) _ (t .before .before .before .look .ensures .0) (t .if1 .left) _
           (c .before .before .«data» .ensures),
     )
 

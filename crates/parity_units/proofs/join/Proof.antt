@@ -1,39 +1,41 @@
 -- `parity_units::join` meets its contract: what the units before the place give stands in the room.
-use Prim.Native.Nat.{_+_, _-_, _≤_}
+use mathlib.Core.Path.{_≡_, sym, _∙_}
+use mathlib.Core.Bool.{true}
+use Prim.Native.Nat.{_+_, _-_}
+use lib.Dec.{leb}
 use lib.ListN.{length}
 use native.Mathlib.Omega.{arith}
 use borrow.Author.Needs.{needs}
-use Rattle.parity_units.specs.Split.{dataWordsIn}
-use Rattle.parity_units.proofs.Joining.{Joined, too-small, none-joined, room-left, unit-joined, all-joined}
+use borrow.Author.Tests.{not-true, not-false}
+use Rattle.parity_units.specs.Split.{givenData, dataWordsIn}
+use Rattle.parity_units.specs.Replies.{joinReply, joinRoom}
+use Rattle.parity_units.proofs.Split.{given-words}
+use Rattle.parity_units.proofs.Joining.{Joined, too-small, none-joined, given-none, room-left, unit-joined, all-joined}
 use Rattle.parity_units.proofs.join.Statement.{statement}
 use Rattle.parity_units.proofs.join.Tie as tie
 
 abbrev Inv-loop : tie.InvT-loop
-Inv-loop payload room₀ n from most at₀ to₀ room at to = Joined payload room₀ from room at to
+Inv-loop payload room₀ n from at₀ to₀ room at to = Joined givenData payload room₀ from room at to
 
 abbrev μ-loop : tie.MeasureT-loop
-μ-loop payload room₀ n from most at₀ to₀ room at to = length payload - at
+μ-loop payload room₀ n from at₀ to₀ room at to = length payload - at
 
 returns : tie.Need-returns Inv-loop μ-loop
+unfolding joinReply joinRoom
 returns c =
     let a = c .before .before .before .before in
-    too-small (a .args .payload .now) (a .args .room .now) (a .args .place .0) (omega (arith, c .if1 .taken, c .before .data-words .ensures))
-
-returns-2 : tie.Need-returns-2 Inv-loop μ-loop
-returns-2 c =
-    let a = c .before .before .before .before .before in
-    too-small (a .args .payload .now) (a .args .room .now) (a .args .place .0) (omega (arith, c .if2 .taken, c .before .before .data-words .ensures))
+    too-small givenData (a .args .payload .now) (a .args .room .now) (a .args .place .0) (sym (c .before .fits2 .ensures) ∙ not-true _ (c .if1 .taken))
 
 -- the room has enough words
-module _ (c : tie.Else2 Inv-loop μ-loop) where
+module _ (c : tie.Else1 Inv-loop μ-loop) where
   abbrev a : tie.Start Inv-loop μ-loop
-  a = c .before .before .before .before .before
+  a = c .before .before .before .before
 
-  fits : a .args .place .0 + dataWordsIn (length (a .args .payload .now)) ≤ length (a .args .room .now)
-  fits = omega (arith, c .if2 .left, c .before .if1 .left, c .before .before .data-words .ensures)
+  fits : leb (a .args .place .0 + dataWordsIn (length (a .args .payload .now))) (length (a .args .room .now)) ≡ true
+  fits = sym (c .before .fits2 .ensures) ∙ not-false _ (c .if1 .left)
 
 loop-holds : tie.Need-loop-holds Inv-loop μ-loop
-loop-holds c = none-joined (a c .args .payload .now) (a c .args .room .now) (a c .args .place .0) (fits c)
+loop-holds c = none-joined givenData (a c .args .payload .now) (a c .args .room .now) (a c .args .place .0) given-words (fits c)
 
 add-to : tie.Need-add-to Inv-loop μ-loop
 add-to c =
@@ -53,11 +55,12 @@ loop-again c =
     unit-joined _ _ _ _ _ _ (l .loop .inv) _ (t .before .loop-test .taken) (t .unit-end .ensures) _ (c .before .before .before .check-unit .ensures .0)
     _ (c .before .before .before .check-unit .ensures .1)
 
-sub-t13 : tie.Need-sub-t13 Inv-loop μ-loop
-sub-t13 c = omega (arith, all-joined _ _ _ _ _ _ (c .before .loop .inv) (fits (c .before .before)) (c .loop-test .left) .0)
+sub-t12 : tie.Need-sub-t12 Inv-loop μ-loop
+sub-t12 c = omega (arith, all-joined givenData _ _ _ _ _ _ (c .before .loop .inv) given-none (fits (c .before .before)) (c .loop-test .left) .0)
 
-returns-3 : tie.Need-returns-3 Inv-loop μ-loop
-returns-3 c = let d = all-joined _ _ _ _ _ _ (c .before .loop .inv) (fits (c .before .before)) (c .loop-test .left) in (d .1, d .2)
+returns-2 : tie.Need-returns-2 Inv-loop μ-loop
+unfolding joinReply joinRoom
+returns-2 c = let d = all-joined givenData _ _ _ _ _ _ (c .before .loop .inv) given-none (fits (c .before .before)) (c .loop-test .left) in (d .1, d .2)
 
 pub join-spec : {M : Type 1} → statement M
 join-spec =
@@ -67,8 +70,6 @@ join-spec =
     μ-loop
     (λ c κs. search needs)
     returns
-    (λ c. search needs)
-    returns-2
     loop-holds
     (λ c κs. search needs)
     (λ c. search needs)
@@ -83,6 +84,6 @@ join-spec =
     add-to
     loop-less
     loop-again
-    sub-t13
+    sub-t12
     (λ c. search needs)
-    returns-3)
+    returns-2)
