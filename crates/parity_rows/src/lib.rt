@@ -42,15 +42,12 @@ fn exchange(x: u64) -> u64
     )
 }
 
-// The 64 bits from a word on as one number, the first bit highest.
+// The 64 bits from a word on as one number, the first bit highest; zeros past the end.
 fn bits_from(words: &[u16], at: Words) -> u64
     requires { ⌜ at .0 ≤ dataWidth ⌝ }
     ensures { λ r. ⌜ r ≡ number 64 (bitFrom (now (words .entry)) (at .0)) ⌝ }
 {
     let first = at.0;
-    if first + 4 <= words.len() {
-        return exchange(load(words, at));
-    }
     pack_row(
         base_room::word_at(words, Words(first)),
         base_room::word_at(words, Words(first + 1)),
@@ -108,9 +105,15 @@ pub fn parity(data: &[u16]) -> Sums
 pub fn stated(unit: &[u16]) -> Sums
     ensures { λ s. ⌜ s ≡ statedParity (now (unit .entry)) ⌝ }
 {
+    if unit.len() < PARITY.0 {
+        return Sums {
+            rows: bits_from(unit, Words(0)),
+            columns: bits_from(unit, Words(4)),
+        };
+    }
     Sums {
-        rows: bits_from(unit, Words(0)),
-        columns: bits_from(unit, Words(4)),
+        rows: exchange(load(unit, Words(0))),
+        columns: exchange(load(unit, Words(4))),
     }
 }
 
