@@ -99,7 +99,9 @@ pub record Total : Type 0 where
   pub parityWords : Determined parity.parityWords
   pub dataWords : Determined parity.dataWords
   pub damaged : Determined parity.damaged
+  pub inspectUnits : Determined parity.inspect
   pub join : Determined parity.join
+  pub copy : Determined parity.copy
   pub countUnits : Determined parity.count
   pub sizeOf : Determined chunk.sizeOf
   pub cameraOf : Determined chunk.cameraOf

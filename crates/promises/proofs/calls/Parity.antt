@@ -43,8 +43,14 @@ data-words = determined calls.dataWords (λ κs a. tt) λ κs a x e p. p
 pub damaged : Determined calls.damaged
 damaged = determined calls.damaged (λ κs a. tt) λ κs a x e p. p
 
+pub inspect : Determined calls.inspect
+inspect = determined calls.inspect (λ κs a. tt) λ κs a x e p. p
+
 pub join : Determined calls.join
 join = determined calls.join (λ κs a. tt) λ κs a x e p. both p
+
+pub copy : Determined calls.copy
+copy = determined calls.copy (λ κs a. tt) λ κs a x e p. both p
 
 pub count : Determined calls.count
 count = determined calls.count (λ κs a. tt) λ κs a x e p. p

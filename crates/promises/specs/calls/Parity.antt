@@ -10,7 +10,7 @@ use Rattle.parity.specs.declared.Judged.{Judged}
 use Rattle.parity_rows.specs.Parity.{parities, statedParity, parityWords as wordsOf}
 use Rattle.parity.specs.Unit.{refused, judgeCauses, judgeReply, checkCauses, checkReply, checkRoom, writeCauses, writeReply, writeRoom}
 use Rattle.parity_units.specs.Split.{unitsIn, dataWordsIn, anyDamaged}
-use Rattle.parity_units.specs.Replies.{joinReply, joinRoom, outcomes}
+use Rattle.parity_units.specs.Replies.{joinReply, joinRoom, copyReply, copyRoom, outcomes, harmTo}
 use Rattle.parity_rows.proofs as parity_rows
 use Rattle.parity.proofs as parity
 use Rattle.parity_units.proofs as parity_units
@@ -84,12 +84,25 @@ damaged =
     replies parity_units.damaged.ended parity_units.damaged.Reads.Asked parity_units.damaged.Reads.Post
     λ κs (payload, _). anyDamaged (unitsIn (now payload))
 
+-- `parity_units::inspect`
+abbrev pub inspect : Function
+inspect =
+    replies parity_units.inspect.ended parity_units.inspect.Reads.Asked parity_units.inspect.Reads.Post
+    λ κs (payload, _). harmTo (unitsIn (now payload))
+
 -- `parity_units::join`
 abbrev pub join : Function
 join =
     shows parity_units.join.ended parity_units.join.Reads.Asked parity_units.join.Reads.Post
     (ℕ × List ℕ) (λ κs x (_, (room, _)). (x .0, now room))
     λ κs (payload, (room, (place, _))). (joinReply (now payload) (place .0) (length (now room)), joinRoom (now payload) (place .0) (now room))
+
+-- `parity_units::copy`
+abbrev pub copy : Function
+copy =
+    shows parity_units.copy.ended parity_units.copy.Reads.Asked parity_units.copy.Reads.Post
+    (ℕ × List ℕ) (λ κs x (_, (room, _)). (x .0, now room))
+    λ κs (payload, (room, (place, _))). (copyReply (now payload) (place .0) (length (now room)), copyRoom (now payload) (place .0) (now room))
 
 -- `parity_units::count`
 abbrev pub count : Function
