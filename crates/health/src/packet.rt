@@ -95,7 +95,9 @@ fn words_of(packet: &[u16]) -> [u16; BODY.0]
     ensures { λ r. ⌜ r ≡ drop 3 (now (packet .entry)) ⌝ }
 {
     let mut words = [0u16; BODY.0];
-    base_room::put_words(&packet[3..], &mut words, Words(0));
+    // the end is said, so that the compiler knows how many words are copied
+    let end = PACKET.0;
+    base_room::put_words(&packet[3..end], &mut words, Words(0));
     words
 }
 
