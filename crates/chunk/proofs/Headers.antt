@@ -1,6 +1,6 @@
 -- Laws of headers at a place of a recording: what the header check looks at, and what a confirmed chunk tells.
 use mathlib.Core.Path.{_≡_, refl, ap, _∙_}
-use mathlib.Core.Bool.{Bool, true, false, cond, _&&_, _||_, false≢true}
+use mathlib.Core.Bool.{Bool, true, false, cond, _&&_, _||_, and-true, false≢true}
 use mathlib.Core.List.{List, [], _∷_}
 use mathlib.Core.Logic.{inl, inr}
 use Prim.Native.Nat.{ℕ, _+_, _-_, _≤_, _<_, _%_}
@@ -8,11 +8,12 @@ use native.Mathlib.Omega.{arith}
 use native.Mathlib.Numerals.{add-one}
 use lib.ListN.{length, getD, drop, length-drop}
 use lib.Seq.{drop-cons, drop-drop, getD-drop}
-use lib.Dec.{leb, eqb}
-use borrow.Author.Tests.{eqb-true, eqb-false, eq-eqb, ne-eqb, leb-true}
+use native.Mathlib.Nat.{mod-lt}
+use lib.Dec.{leb, eqb, lit<}
+use borrow.Author.Tests.{eqb-true, eqb-false, eq-eqb, ne-eqb, leb-true, leb-false, le-leb}
 use Rattle.base.proofs.Booleans.{and-left, and-right, or-cases}
 use Rattle.chunk.specs.declared.Check.{Check}
-use Rattle.chunk.specs.Header.{size, kind, imageSize, healthSize, legalSize, legal, headed, span, ends, confirmed, atEnd, chunkCheck, checkAt, isChunk, isAtEnd}
+use Rattle.chunk.specs.Header.{size, camera, kind, imageSize, healthSize, legalSize, legal, headed, span, ends, confirmed, atEnd, chunkCheck, checkAt, isChunk, isAtEnd}
 
 -- of a chunk the header check tells the mark
 pub chunk-told : (m : Bool) → isChunk (chunkCheck m) ≡ true
@@ -56,6 +57,32 @@ legal-size k n e =
 pub legal-bounds : (h : ℕ) → legal h ≡ true → (9 ≤ size h) × (size h ≤ 8184)
 unfolding legal
 legal-bounds h e = legal-size (kind h) (size h) (and-left (legalSize (kind h) (size h)) _ e)
+
+-- a header word of size 0 is illegal
+pub legal-empty : (h : ℕ) → size h ≡ 0 → legal h ≡ false
+unfolding legal legalSize
+legal-empty h z = rw z
+
+-- of any other size of 13 bits the rule of the kind alone tells: 8,191, which is too long, meets neither
+within-bounds : (n : ℕ) (b : Bool) → 1 ≤ n → n < 8192
+    → leb 1 n && leb n 8190 && cond b (imageSize n) (healthSize n) ≡ cond b (imageSize n) (healthSize n)
+within-bounds n b low high = by-bound (leb n 8190) refl
+  where
+    too-long : (b : Bool) → leb 1 8191 && leb 8191 8190 && cond b (imageSize 8191) (healthSize 8191) ≡ cond b (imageSize 8191) (healthSize 8191)
+    too-long true = refl
+    too-long false = refl
+
+    by-bound : (t : Bool) → leb n 8190 ≡ t → leb 1 n && leb n 8190 && cond b (imageSize n) (healthSize n) ≡ cond b (imageSize n) (healthSize n)
+    by-bound true t = rw (le-leb 1 n low, t)
+    by-bound false t = let e : n ≡ 8191 = omega (arith, leb-false n 8190 t) in rw e (too-long b)
+
+pub legal-image : (h : ℕ) → 1 ≤ size h → kind h ≡ 0 → legal h ≡ imageSize (size h)
+unfolding legal legalSize
+legal-image h low k = rw (eq-eqb (kind h) 0 k, within-bounds (size h) true low (mod-lt h (lit< tt)), and-true)
+
+pub legal-health : (h : ℕ) → 1 ≤ size h → (kind h ≡ 0 → ⊥) → legal h ≡ healthSize (size h) && eqb (camera h) 0
+unfolding legal legalSize
+legal-health h low k = rw (ne-eqb (kind h) 0 k, within-bounds (size h) false low (mod-lt h (lit< tt)))
 
 -- a header is the sync word and a legal header word
 pub headed-parts : (sync : ℕ) (ws : List ℕ) → headed sync ws ≡ true → (getD ws 0 0 ≡ sync) × (1 < length ws) × (legal (getD ws 1 0) ≡ true)
@@ -130,3 +157,19 @@ module _ (sync : ℕ) (ws : List ℕ) (at : ℕ) where
       let l : eqb (span (getD (drop at ws) 1 0)) (length (drop at ws)) ≡ eqb end (length ws) = at-end end (omega (arith, headed-inside e)) n in
       let d : drop (span (getD (drop at ws) 1 0)) (drop at ws) ≡ drop end ws = drop-drop (span (getD (drop at ws) 1 0)) at ws ∙ ap (λ (m : ℕ). drop m ws) s in
       rw (e, l, d)
+
+  -- told by the end alone: it is the recording's, a legal header stands there, or neither
+  pub check-by-end : (end : ℕ) → headed sync (drop at ws) ≡ true → end ≡ at + 2 + size (getD ws (at + 1) 0)
+      → checkAt sync (drop at ws) ≡ cond (eqb end (length ws)) Check.AtEnd (cond (headed sync (drop end ws)) Check.Followed Check.NotAChunk)
+  unfolding checkAt
+  check-by-end end e n =
+      rw (confirmed-by-end end e n, at-end end (omega (arith, headed-inside e)) n) (by-test (eqb end (length ws)))
+    where
+      by-test : (b : Bool) → cond (b || headed sync (drop end ws)) (chunkCheck b) Check.NotAChunk
+          ≡ cond b Check.AtEnd (cond (headed sync (drop end ws)) Check.Followed Check.NotAChunk)
+      by-test true = refl
+      by-test false = refl
+
+  pub check-none : headed sync (drop at ws) ≡ false → checkAt sync (drop at ws) ≡ Check.NotAChunk
+  unfolding checkAt
+  check-none e = rw (confirmed-none e)

@@ -16,7 +16,7 @@ use Rattle.chunk.specs.declared.Entry.{Entry}
 use Rattle.chunk.specs.declared.Found.{Found}
 use Rattle.chunk.specs.Header.{size, span, headed, ends, confirmed, atEnd}
 use Rattle.chunk.specs.Reading.{entry, listed, skippedFrom, leftAt, listedAt, chunkAt, found, nextFrom}
-use Rattle.chunk.proofs.Headers.{confirmed-within, at-end}
+use Rattle.chunk.proofs.Headers.{confirmed-within, headed-none, confirmed-none, at-end}
 
 -- ---- a chunk in hand is passed
 
@@ -211,9 +211,20 @@ module _ (sync : ℕ) (ws : List ℕ) where
     end : next .0 ≡ past e
     noise : Noise sync ws p (e .position .0)
 
+  -- no chunk is found where no word is left
   pub found-end : (p : ℕ) → length ws ≤ p → nextFrom sync ws p ≡ Found.End
   unfolding found
   found-end p h = ap (found sync p) (drop-of-length-le ws h)
+
+  -- nor where one word is left
+  pub found-last : (p : ℕ) → length ws ≤ p + 1 → nextFrom sync ws p ≡ Found.End
+  found-last p h = by-end (ltb p (length ws)) refl
+    where
+      by-end : (b : Bool) → ltb p (length ws) ≡ b → nextFrom sync ws p ≡ Found.End
+      by-end true l =
+          found-later sync ws p (ltb-true p (length ws) l) (confirmed-none sync ws p (headed-none sync ws p (omega arith)))
+          ∙ found-end (suc p) (omega arith)
+      by-end false l = found-end p (ltb-false p (length ws) l)
 
   first-confirmed : (k p : ℕ) (e : Entry) (next : Words) → length ws ≤ p + k → nextFrom sync ws p ≡ Found.Chunk e next → First p e next
   first-confirmed zero p e next h f = let z : _≡_ {A = ℕ} 0 1 = cc (found-end p (omega arith)) in absurd (omega arith)

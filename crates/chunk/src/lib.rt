@@ -1,4 +1,5 @@
 // Chunks: the header, and the search for the next one.
+mod confirm;
 pub mod header;
 pub mod search;
 
