@@ -158,18 +158,24 @@ module _ (sync : ℕ) (ws : List ℕ) (at : ℕ) where
       let d : drop (span (getD (drop at ws) 1 0)) (drop at ws) ≡ drop end ws = drop-drop (span (getD (drop at ws) 1 0)) at ws ∙ ap (λ (m : ℕ). drop m ws) s in
       rw (e, l, d)
 
-  -- told by the end alone: it is the recording's, a legal header stands there, or neither
-  pub check-by-end : (end : ℕ) → headed sync (drop at ws) ≡ true → end ≡ at + 2 + size (getD ws (at + 1) 0)
-      → checkAt sync (drop at ws) ≡ cond (eqb end (length ws)) Check.AtEnd (cond (headed sync (drop end ws)) Check.Followed Check.NotAChunk)
-  unfolding checkAt
-  check-by-end end e n =
-      rw (confirmed-by-end end e n, at-end end (omega (arith, headed-inside e)) n) (by-test (eqb end (length ws)))
-    where
-      by-test : (b : Bool) → cond (b || headed sync (drop end ws)) (chunkCheck b) Check.NotAChunk
-          ≡ cond b Check.AtEnd (cond (headed sync (drop end ws)) Check.Followed Check.NotAChunk)
-      by-test true = refl
-      by-test false = refl
-
   pub check-none : headed sync (drop at ws) ≡ false → checkAt sync (drop at ws) ≡ Check.NotAChunk
   unfolding checkAt
   check-none e = rw (confirmed-none e)
+
+-- where a header stands, the end alone is left to look at: a legal header stands there, it is the recording's, or neither
+pub check-by-end : (sync : ℕ) (ws : List ℕ) (at end : ℕ) → headed sync (drop at ws) ≡ true → end ≡ at + 2 + size (getD ws (at + 1) 0)
+    → checkAt sync (drop at ws) ≡ cond (headed sync (drop end ws)) Check.Followed (cond (eqb end (length ws)) Check.AtEnd Check.NotAChunk)
+unfolding checkAt
+check-by-end sync ws at end e n =
+    rw (confirmed-by-end sync ws at end e n, at-end sync ws at end (omega (arith, headed-inside sync ws at e)) n)
+    (by-header (headed sync (drop end ws)) refl)
+  where
+    by-place : (b : Bool) → cond (b || false) (chunkCheck b) Check.NotAChunk ≡ cond b Check.AtEnd Check.NotAChunk
+    by-place true = refl
+    by-place false = refl
+
+    by-header : (h : Bool) → headed sync (drop end ws) ≡ h
+        → cond (eqb end (length ws) || h) (chunkCheck (eqb end (length ws))) Check.NotAChunk
+        ≡ cond h Check.Followed (cond (eqb end (length ws)) Check.AtEnd Check.NotAChunk)
+    by-header true q = rw (ne-eqb end (length ws) (λ z. omega (arith, headed-inside sync ws end q)))
+    by-header false q = by-place (eqb end (length ws))

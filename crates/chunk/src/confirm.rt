@@ -82,11 +82,11 @@ pub fn check_synced(words: &[u16], sync: u16, at: Words) -> Check
         return Check::NotAChunk;
     }
     let end = place + HEADER.0 + header::size_of(word).0;
-    if end == words.len() {
-        return Check::AtEnd;
-    }
     if headed_at(words, sync, Words(end)) {
         return Check::Followed;
+    }
+    if end == words.len() {
+        return Check::AtEnd;
     }
     Check::NotAChunk
 }

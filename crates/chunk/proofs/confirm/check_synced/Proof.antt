@@ -26,7 +26,7 @@ by-end : (c : tie.After-size-of)
     → (let a = c .before .before .before .before .before .before .args in
     let end = a .at .0 + 2 + c .size-of .result .0 in
     checkAt (a .sync) (drop (a .at .0) (a .words .now))
-    ≡ cond (eqb end (length (a .words .now))) Check.AtEnd (cond (headed (a .sync) (drop end (a .words .now))) Check.Followed Check.NotAChunk))
+    ≡ cond (headed (a .sync) (drop end (a .words .now))) Check.Followed (cond (eqb end (length (a .words .now))) Check.AtEnd Check.NotAChunk))
 by-end c =
     let e = c .before .before in
     let a = e .before .before .before .before .args in
@@ -39,17 +39,15 @@ returns c =
     sym (check-none (a .sync) (a .words .now) (a .at .0) (standing (c .before) _ (not-true _ (c .if1 .taken))))
 
 returns-2 : tie.Need-returns-2
-returns-2 c = sym (by-end (c .before .before) ∙ rw (eq-eqb _ _ (c .if2 .taken)))
+returns-2 c = sym (by-end (c .before .before .before) ∙ rw (← c .before .headed-at .ensures, c .if2 .taken))
 
 returns-3 : tie.Need-returns-3
 returns-3 c =
-    sym (by-end (c .before .before .before .before)
-    ∙ rw (ne-eqb _ _ (c .before .before .if2 .left), ← c .before .headed-at .ensures, c .if3 .taken))
+    sym (by-end (c .before .before .before .before) ∙ rw (← c .before .before .headed-at .ensures, c .before .if2 .left, eq-eqb _ _ (c .if3 .taken)))
 
 returns-4 : tie.Need-returns-4
 returns-4 c =
-    sym (by-end (c .before .before .before .before)
-    ∙ rw (ne-eqb _ _ (c .before .before .if2 .left), ← c .before .headed-at .ensures, c .if3 .left))
+    sym (by-end (c .before .before .before .before) ∙ rw (← c .before .before .headed-at .ensures, c .before .if2 .left, ne-eqb _ _ (c .if3 .left)))
 
 pub check-synced-spec : {M : Type 1} → statement M
 check-synced-spec =
@@ -63,7 +61,7 @@ check-synced-spec =
     (λ c. search needs)
     (λ c κs. search needs)
     (λ c. search needs)
-    returns-2
     (λ c κs. search needs)
+    returns-2
     returns-3
     returns-4)
