@@ -20,27 +20,28 @@ pub fn refused(number: u8) -> Survey
     }
 }
 
-// The chunks and the skipped words of any words, marked where a chunk ends with them.
+// The chunks and the skipped words of any words, marked where a chunk ends with them. What is in no listed chunk is skipped, so the loop adds up
+// the words of the chunks alone.
 pub fn count(words: &[u16], sync: u16) -> Counts
     ensures { λ r. ⌜ r ≡ countReply sync (now (words .entry)) ⌝ }
 {
     let mut chunks: usize = 0;
-    let mut skipped: usize = 0;
+    let mut listed: usize = 0;
     let mut end = false;
     let mut at: usize = 0;
     loop {
         let found = search::next(words, sync, Words(at));
         let Found::Chunk(entry, next) = found else {
-            let all = skipped + (words.len() - at);
+            let skipped = words.len() - listed;
             return Counts {
                 chunks: chunks,
-                skipped: Words(all),
+                skipped: Words(skipped),
                 end: end,
             };
         };
         let begins = entry.position.0;
         chunks += 1;
-        skipped += begins - at;
+        listed += next.0 - begins;
         end = end | entry.end;
         at = next.0;
     }

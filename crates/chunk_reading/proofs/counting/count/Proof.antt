@@ -12,10 +12,10 @@ use Rattle.chunk_reading.proofs.counting.count.Statement.{statement}
 use Rattle.chunk_reading.proofs.counting.count.Tie as tie
 
 abbrev Inv-loop : tie.InvT-loop
-Inv-loop words sync chunks₀ skipped₀ end₀ at₀ chunks skipped end at = Counted sync words chunks skipped end at
+Inv-loop words sync chunks₀ listed₀ end₀ at₀ chunks listed end at = Counted sync words chunks listed end at
 
 abbrev μ-loop : tie.MeasureT-loop
-μ-loop words sync chunks₀ skipped₀ end₀ at₀ chunks skipped end at = length words - at
+μ-loop words sync chunks₀ listed₀ end₀ at₀ chunks listed end at = length words - at
 
 -- the chunk that was found
 step : (c : tie.After-known-told Inv-loop μ-loop)
@@ -49,17 +49,17 @@ returns c =
 add-chunks : tie.Need-add-chunks Inv-loop μ-loop
 add-chunks c = record { fits = omega (arith, step c .ahead, step c .within, step c .end) }
 
-sub-skipped : tie.Need-sub-skipped Inv-loop μ-loop
-sub-skipped c = omega (arith, step c .ahead)
+sub-listed : tie.Need-sub-listed Inv-loop μ-loop
+sub-listed c = omega (arith, step (c .before) .end)
 
-add-skipped : tie.Need-add-skipped Inv-loop μ-loop
-add-skipped c = record { fits = omega (arith, step c .ahead, step c .within, step c .end) }
+add-listed : tie.Need-add-listed Inv-loop μ-loop
+add-listed c = let s = step (c .before) in record { fits = omega (arith, s .ahead, s .within, s .end) }
 
 loop-less : tie.Need-loop-less Inv-loop μ-loop
-loop-less c = omega (arith, step (c .before) .ahead, step (c .before) .within, step (c .before) .end)
+loop-less c = let s = step (c .before .before) in omega (arith, s .ahead, s .within, s .end)
 
 loop-again : tie.Need-loop-again Inv-loop μ-loop
-loop-again c = chunk-counted _ _ _ _ _ _ (c .before .before .before .before .before .loop .inv) _ _ (step (c .before))
+loop-again c = chunk-counted _ _ _ _ _ _ (c .before .before .before .before .before .before .loop .inv) _ _ (step (c .before .before))
 
 pub count-spec : {M : Type 1} → statement M
 count-spec =
@@ -72,10 +72,9 @@ count-spec =
     (λ c. search needs)
     (λ c. search needs)
     (λ c. search needs)
-    (λ c. search needs)
     returns
     add-chunks
-    sub-skipped
-    add-skipped
+    sub-listed
+    add-listed
     loop-less
     loop-again)
