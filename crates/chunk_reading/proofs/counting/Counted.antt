@@ -1,4 +1,4 @@
--- The loop that counts: what is counted up to `at` and what the reading gives from there on are all.
+-- The loop that counts: what is counted up to `at` and what the reading gives from there on are all. `words` are those of the chunks so far.
 use mathlib.Core.Path.{_≡_, refl, sym, ap, _∙_}
 use mathlib.Core.Bool.{Bool, false, _||_, or-assoc, or-false}
 use mathlib.Core.List.{List}

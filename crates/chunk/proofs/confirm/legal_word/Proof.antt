@@ -1,5 +1,5 @@
 -- `chunk::confirm::legal_word` meets its contract: a size of 0, and the rule of each kind.
-use mathlib.Core.Path.{_≡_, sym, ap, _∙_}
+use mathlib.Core.Path.{sym, ap, _∙_}
 use Prim.Native.Nat.{_≤_}
 use native.Mathlib.Omega.{arith}
 use borrow.Author.Needs.{needs}
