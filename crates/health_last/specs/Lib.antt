@@ -1,4 +1,4 @@
 pub mod Packets
-pub mod Seek
 pub mod Last
+pub mod Seek
 pub mod Examples

@@ -142,7 +142,13 @@ fn newest(science: &[u16], sync: u16, health: &[u16], packet_type: u16) -> Place
 {
     let marked = seek::in_science(science, sync, packet_type);
     let in_science = marked.found;
-    let in_health = seek::in_row(health, packet_type, Words(0), health.len() / PACKET.0);
+    let in_health = seek::in_row(
+        health,
+        packet_type,
+        false,
+        Words(0),
+        health.len() / PACKET.0,
+    );
     let science_time = time_at(science, in_science);
     let health_time = time_at(health, in_health);
     let newer = newer(science_time, health_time);

@@ -1,6 +1,7 @@
 -- `health_last::newest` meets its contract: each place that is found is within its recording, so its time can be read.
 use borrow.Author.Needs.{needs}
-use Rattle.health_last.specs.Packets.{sciencePlaces, healthPlaces}
+use Rattle.health_last.specs.Packets.{sciencePlaces, healthPlaces, soundOf}
+use Rattle.health_last.specs.Seek.{wanted}
 use Rattle.health_last.proofs.Placed.{found-within, compared}
 use Rattle.health_last.proofs.newest.Statement.{statement}
 use Rattle.health_last.proofs.newest.Tie as tie
@@ -12,11 +13,13 @@ time-at-requires c κs =
     found-within (a .packet-type) (a .science .now) (sciencePlaces (a .sync) (a .science .now)) (found .in-science .ensures .0)
 
 time-at-requires-2 : tie.Need-time-at-requires-2
+unfolding soundOf wanted
 time-at-requires-2 c κs =
     let a = c .before .before .before .before .before .before .args in
     found-within (a .packet-type) (a .health .now) (healthPlaces (a .health .now)) (c .before .in-row .ensures)
 
 returns : tie.Need-returns
+unfolding soundOf wanted
 returns c =
     let timed = c .before .before in
     let in-row = timed .before .before in

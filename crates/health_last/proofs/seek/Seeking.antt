@@ -1,20 +1,24 @@
 -- The search for the last place where a test holds: from the back of a row of packets, and chunk by chunk of a reading.
-use mathlib.Core.Path.{_≡_, refl, sym, ap, _∙_}
-use mathlib.Core.Bool.{Bool, true, false, cond}
+use mathlib.Core.Path.{_≡_, refl, sym, ap, subst, _∙_}
+use mathlib.Core.Bool.{Bool, true, false, cond, _&&_, true≢false}
 use mathlib.Core.List.{List, [], _∷_, _++_}
 use Prim.Native.Nat.{ℕ, zero, suc, _+_, _-_, _*_, _≤_, _<_}
 use native.Mathlib.Omega.{arith}
 use lib.ListN.{length, drop}
+use lib.Dec.{eqb}
+use Rattle.base.specs.declared.Words.{Words}
 use Rattle.chunk.specs.declared.Entry.{Entry}
+use Rattle.chunk.specs.declared.Found.{Found}
 use Rattle.chunk.specs.Reading.{listed, reading}
 use Rattle.chunk.proofs.Steps.{Next, Last, past}
+use Rattle.health.specs.Packet.{packetAt, packetType, soundPacket}
 use Rattle.health_last.specs.declared.Marked.{Marked}
 use Rattle.health_last.specs.declared.Sought.{Sought}
 use Rattle.health_last.specs.declared.Sought.the-variants.{At, Nowhere}
 use Rattle.health_last.specs.Packets.{packetPlaces, chunkPlaces, placesOf, inEnd, scienceEnd, soundOf, later, lastWhere}
-use Rattle.health_last.specs.Seek.{laterMarked}
+use Rattle.health_last.specs.Seek.{wanted, Answers, Decided}
 use Rattle.health_last.specs.Last.{inScience}
-use Rattle.health_last.proofs.Later.{later-none, later-assoc, last-append}
+use Rattle.health_last.proofs.Later.{later-none, later-assoc, last-append, none-cases}
 use Rattle.health_last.proofs.Marks.{chunk-bounds, past-first, inside-first, none-before}
 
 -- ---- a row of packets, from the back
@@ -53,9 +57,11 @@ module _ (f : ℕ → Bool) where
   unfolding packetPlaces lastWhere
   none-left n from e = ap (λ (k : ℕ). lastWhere f (packetPlaces k from)) e
 
--- ---- a chunk
-
 -- ---- a science recording, chunk by chunk
+
+-- the later of two, where it is there, with its mark
+abbrev laterMarked : Marked → Marked → Marked
+laterMarked a b = elim (a .found) [ At p ↦ a | Nowhere ↦ b ]
 
 -- What is left of the reading at a place, after what was found before it, gives the answer; what was found has its mark, and from that place on what is left
 -- tells the mark of a place.
@@ -113,10 +119,62 @@ module _ (sync t : ℕ) (ws : List ℕ) where
               s .rest p (omega (arith, h, k .end, k .ahead)) ∙ ap (inEnd p) (k .lists) ∙ past-first e p others (omega (arith, h, k .end));
         }
 
-  pub all-sifted : {at : ℕ} {last : Marked} → Sifted sync t ws at last → Last sync ws at
-      → (last .found ≡ inScience sync ws t) × (last .end ≡ scienceEnd sync ws (inScience sync ws t))
+  pub all-sifted : {at : ℕ} {last : Marked} → Sifted sync t ws at last → Last sync ws at → Answers sync ws t last
   unfolding placesOf lastWhere
   all-sifted {at} {last} s n =
       let all : last .found ≡ inScience sync ws t =
       ap (λ (es : List Entry). later (lastWhere (soundOf ws t) (placesOf es)) (last .found)) (sym (n .lists)) ∙ s .answers in
       (all, s .mark ∙ ap (scienceEnd sync ws) all)
+
+-- ---- a science recording, by the types alone
+
+-- where no packet is of the type, none is a sound one of it
+none-sound : (t : ℕ) (ws places : List ℕ) → lastWhere (wanted ws t true) places ≡ Nowhere → lastWhere (soundOf ws t) places ≡ Nowhere
+unfolding lastWhere soundOf wanted
+none-sound t ws [] e = refl
+none-sound t ws (p ∷ places) e =
+    let none = none-cases (wanted ws t true) p places e in
+    let other = unsound (eqb (packetType (packetAt ws p)) t) (soundPacket (packetAt ws p)) (none .0) in
+    rw (none-sound t ws places (none .1), other)
+  where
+    unsound : (b x : Bool) → b && true ≡ false → b && x ≡ false
+    unsound true x k = absurd (true≢false k)
+    unsound false x k = refl
+
+-- What the search chunk by chunk would have found so far: in the chunk in hand, where that has a sound packet of the type, and nothing where none is in hand.
+abbrev InHand : ℕ → List ℕ → Found → Marked → Type 0
+InHand t ws (Found.Chunk e n) so-far =
+    (past e ≤ length ws) × ((p : Words) → lastWhere (soundOf ws t) (chunkPlaces e) ≡ At p → so-far ≡ record { found = At p; end = e .end })
+InHand t ws Found.End so-far = so-far .found ≡ Nowhere
+
+pub record Held (sync t : ℕ) (ws : List ℕ) (at : ℕ) (holder : Found) : Type 0 where
+  so-far : Marked
+  sifted : Sifted sync t ws at so-far
+  in-hand : InHand t ws holder so-far
+
+module _ (sync t : ℕ) (ws : List ℕ) where
+  pub none-held : Held sync t ws 0 Found.End
+  none-held = record { so-far = record { found = Nowhere; end = false }; sifted = none-sifted sync t ws; in-hand = refl }
+
+  module _ {at : ℕ} {holder : Found} (s : Held sync t ws at holder) {e : Entry} {next : Words} (k : Next sync ws at e (next .0)) where
+    -- the chunk is taken in hand
+    pub chunk-held : Held sync t ws (next .0) (Found.Chunk e next)
+    chunk-held =
+        let here : Sought → Marked = λ (found : Sought). laterMarked (record { found = found; end = e .end }) (s .so-far) in
+        record {
+          so-far = here (lastWhere (soundOf ws t) (chunkPlaces e));
+          sifted = chunk-sifted sync t ws (s .sifted) k refl refl;
+          in-hand = (omega (arith, k .within, k .end), λ p ep. ap here ep);
+        }
+
+    -- the chunk holds no packet of the type
+    pub chunk-passed : lastWhere (wanted ws t true) (chunkPlaces e) ≡ Nowhere → Held sync t ws (next .0) holder
+    chunk-passed none =
+        let unsound = none-sound t ws (chunkPlaces e) none in
+        record { so-far = s .so-far; sifted = chunk-sifted sync t ws (s .sifted) k (sym unsound) refl; in-hand = s .in-hand }
+
+  pub all-held : {at : ℕ} (holder : Found) → Held sync t ws at holder → Last sync ws at → Decided sync ws t holder
+  all-held (Found.Chunk e next) s n =
+      let answers = all-sifted sync t ws (s .sifted) n in
+      record { within = s .in-hand .0; answers = λ p ep. subst (Answers sync ws t) (s .in-hand .1 p ep) answers }
+  all-held Found.End s n = sym (all-sifted sync t ws (s .sifted) n .0) ∙ s .in-hand

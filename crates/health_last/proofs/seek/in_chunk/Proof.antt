@@ -1,9 +1,9 @@
 -- `health_last::seek::in_chunk` meets its contract: by the kind of the chunk.
 use mathlib.Core.Path.{sym, ap, _∙_}
-use Prim.Native.Nat.{ℕ, _/_, _+_}
 use borrow.Author.Needs.{needs}
-use Rattle.health_last.specs.Packets.{packetPlaces, soundOf, lastWhere}
-use Rattle.health_last.proofs.Places.{no-packets, chunk-packets}
+use Rattle.health_last.specs.Packets.{lastWhere}
+use Rattle.health_last.specs.Seek.{wanted}
+use Rattle.health_last.proofs.Places.{no-packets, chunk-last}
 use Rattle.health_last.proofs.seek.in_chunk.Statement.{statement}
 use Rattle.health_last.proofs.seek.in_chunk.Tie as tie
 
@@ -11,16 +11,14 @@ returns : tie.Need-returns
 unfolding lastWhere
 returns c =
     let a = c .before .before .before .args in
-    sym (ap (lastWhere (soundOf (a .words .now) (a .packet-type))) (no-packets (a .chunk) (λ e. c .if1 .taken (c .before .kind-of .ensures ∙ e))))
+    sym (ap (lastWhere (wanted (a .words .now) (a .packet-type) (a .any))) (no-packets (a .chunk) (λ e. c .if1 .taken (c .before .kind-of .ensures ∙ e))))
 
 returns-2 : tie.Need-returns-2
 returns-2 c =
     let tested = c .before .before .before .before .before .before in
     let a = tested .before .before .before .args in
-    let f = soundOf (a .words .now) (a .packet-type) in
-    c .in-row .ensures
-    ∙ ap (λ (n : ℕ). lastWhere f (packetPlaces (n / 32) (a .chunk .position .0 + 2))) (c .before .before .before .size-of .ensures)
-    ∙ ap (lastWhere f) (sym (chunk-packets (a .chunk) (sym (tested .before .kind-of .ensures) ∙ tested .if1 .left)))
+    chunk-last (a .chunk) (wanted (a .words .now) (a .packet-type) (a .any)) (sym (tested .before .kind-of .ensures) ∙ tested .if1 .left)
+    (c .before .before .before .size-of .ensures) (c .in-row .ensures)
 
 pub in-chunk-spec : {M : Type 1} → statement M
 in-chunk-spec =

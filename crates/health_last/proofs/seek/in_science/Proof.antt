@@ -1,63 +1,50 @@
--- `health_last::seek::in_science` meets its contract: what is left of the reading, after what was found before with its mark, gives the answer.
-use mathlib.Core.Path.{sym, _∙_}
-use Prim.Native.Nat.{_-_}
-use native.Mathlib.Omega.{arith}
-use lib.ListN.{length}
+-- `health_last::seek::in_science` meets its contract: the chunk that decides gives the answer, where it has one, and else the search chunk by chunk.
+use mathlib.Core.Path.{sym, ap, subst, _∙_}
 use borrow.Author.Needs.{needs}
-use Rattle.chunk.proofs.Steps.{Next, stepped, ended}
-use Rattle.health_last.proofs.seek.Seeking.{Sifted, none-sifted, chunk-sifted, all-sifted}
+use Rattle.health_last.specs.Packets.{scienceEnd, soundOf}
+use Rattle.health_last.specs.Seek.{wanted, Decides, Decided}
 use Rattle.health_last.proofs.seek.in_science.Statement.{statement}
 use Rattle.health_last.proofs.seek.in_science.Tie as tie
 
-abbrev Inv-loop : tie.InvT-loop
-Inv-loop words sync t last₀ at₀ last at = Sifted sync t words (at .0) last
-
-abbrev μ-loop : tie.MeasureT-loop
-μ-loop words sync t last₀ at₀ last at = length words - at .0
-
-loop-holds : tie.Need-loop-holds Inv-loop μ-loop
-loop-holds c = none-sifted _ _ _
-
-returns : tie.Need-returns Inv-loop μ-loop
+returns : tie.Need-returns
+unfolding scienceEnd
 returns c =
-    let l = c .before .before .before in
-    let a = l .before .before .args in
-    all-sifted (a .sync) (a .packet-type) (a .words .now) (l .loop .inv) (ended (a .sync) (a .words .now) (l .loop .at .0) (sym (c .before .before .next .ensures) ∙ c .enum-told .given .1))
+    let a = c .before .before .before .before .args in
+    let none = subst (Decided (a .sync) (a .words .now) (a .packet-type)) (c .enum-told .given .1) (c .before .before .last-holder .ensures) in
+    (sym none, sym (ap (scienceEnd (a .sync) (a .words .now)) none))
 
--- the chunk that was found
-step : (c : tie.After-known-told Inv-loop μ-loop)
-    → (let l = c .before .before .before .before in
-    Next (l .before .before .args .sync) (l .before .before .args .words .now) (l .loop .at .0) (c .before .found .given .0 .0) (c .before .found .given .0 .1 .0 .0))
-step c =
-    let l = c .before .before .before .before in
-    stepped (l .before .before .args .sync) (l .before .before .args .words .now) (l .loop .at .0) (c .before .found .given .0 .0) (c .before .found .given .0 .1 .0)
-    (sym (c .before .before .before .next .ensures) ∙ c .before .found .given .1)
+-- the chunk in hand decides
+decides : (c : tie.After-known-told)
+    → (let a = c .before .before .before .before .before .args in Decides (a .sync) (a .words .now) (a .packet-type) (c .before .last .given .0 .0))
+decides c =
+    let a = c .before .before .before .before .before .args in
+    subst (Decided (a .sync) (a .words .now) (a .packet-type)) (c .before .last .given .1) (c .before .before .before .last-holder .ensures)
 
-in-chunk-requires : tie.Need-in-chunk-requires Inv-loop μ-loop
-in-chunk-requires c κs = omega (arith, step c .within, step c .end)
+in-chunk-requires : tie.Need-in-chunk-requires
+in-chunk-requires c κs = decides c .within
 
-loop-less : tie.Need-loop-less Inv-loop μ-loop
-loop-less c = let k = c .before .before in omega (arith, step k .ahead, step k .within, step k .end)
+returns-2 : tie.Need-returns-2
+unfolding soundOf wanted
+returns-2 c =
+    let looked = c .before .before in
+    let there = c .enum-told2 .given .1 in
+    let answer = decides (looked .before) .answers (c .enum-told2 .given .0 .0) (sym (looked .in-chunk .ensures) ∙ there) in
+    (there ∙ answer .0, answer .1)
 
-loop-again : tie.Need-loop-again Inv-loop μ-loop
-loop-again c =
-    let k = c .before .before in
-    let l = k .before .before .before .before in
-    let a = l .before .before .args in
-    chunk-sifted (a .sync) (a .packet-type) (a .words .now) (l .loop .inv) (step k) (c .before .in-chunk .ensures) (c .latest .ensures)
+returns-3 : tie.Need-returns-3
+returns-3 c = c .in-chunks .ensures
 
 pub in-science-spec : {M : Type 1} → statement M
 in-science-spec =
     tie.close
     (tie.spec
-    Inv-loop
-    μ-loop
-    loop-holds
     (λ c κs. search needs)
     (λ c. search needs)
     (λ c. search needs)
     returns
     in-chunk-requires
+    (λ c. search needs)
+    (λ c. search needs)
     (λ c κs. search needs)
-    loop-less
-    loop-again)
+    returns-2
+    returns-3)
