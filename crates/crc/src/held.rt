@@ -1,33 +1,33 @@
-// A message so far, held as sixteen words that have its register: the polynomial divides x^256 + x^192 + x^80 + 1, so four
-// words are put down again 4, 11 and 16 words later, and division waits until the end.
+// A message so far, held as eight words that have its register: the polynomial divides x^128 + x^96 + x^40 + 1, so four words are
+// put down again 4, 11 and 16 bytes later, and division waits until the end.
 use base::Bytes;
 use base::Words;
 use base::number;
 ghost use mathlib.Core.Path.{_≡_};
 ghost use mathlib.Core.List.{[], _∷_};
-ghost use Prim.Native.Nat.{_+_, _≤_};
-ghost use lib.ListN.{length};
-ghost use Rattle.crc_division.specs.Blocks.{lanes, afterBlock};
+ghost use Prim.Native.Nat.{_+_, _<_, _≤_};
+ghost use lib.ListN.{length, take};
+ghost use Rattle.crc_division.specs.Blocks.{lanes};
+ghost use Rattle.crc_division.specs.Folding.{highLanes, afterHigh};
+ghost use Rattle.crc.specs.Crc.{crcWords};
 ghost use Rattle.crc.specs.Held.{wordsAt, pairAt, pairsAt, registerOf};
 
-// Sixteen words, four to a block; a block has its first word lowest, as one load of 64 bits gives it.
+// Eight words, four to a block; a block has its first word highest, as the bits go by.
 pub struct Held {
     pub first: u64,
     pub second: u64,
-    pub third: u64,
-    pub fourth: u64,
 }
 
 fn pack(a: u16, b: u16, c: u16, d: u16) -> u64
-    ensures { λ x. ⌜ lanes x ≡ a ∷ b ∷ c ∷ d ∷ [] ⌝ }
+    ensures { λ x. ⌜ highLanes x ≡ a ∷ b ∷ c ∷ d ∷ [] ⌝ }
 {
-    (a as u64) ^ ((b as u64) << 16) ^ ((c as u64) << 32) ^ ((d as u64) << 48)
+    (d as u64) ^ ((c as u64) << 16) ^ ((b as u64) << 32) ^ ((a as u64) << 48)
 }
 
 // The four words at a place.
 pub fn words_at(message: &[u16], at: Words) -> u64
     requires { ⌜ at .0 + 4 ≤ length (now message) ⌝ }
-    ensures { λ x. ⌜ lanes x ≡ wordsAt (now (message .entry)) (at .0) ⌝ }
+    ensures { λ x. ⌜ highLanes x ≡ wordsAt (now (message .entry)) (at .0) ⌝ }
 {
     let i = at.0;
     pack(message[i], message[i + 1], message[i + 2], message[i + 3])
@@ -45,7 +45,7 @@ fn pair_at(message: &[u8], at: Bytes) -> u16
 // The eight bytes at a place as four words.
 pub fn bytes_at(message: &[u8], at: Bytes) -> u64
     requires { ⌜ at .0 + 8 ≤ length (now message) ⌝ }
-    ensures { λ x. ⌜ lanes x ≡ pairsAt (now (message .entry)) (at .0) ⌝ }
+    ensures { λ x. ⌜ highLanes x ≡ pairsAt (now (message .entry)) (at .0) ⌝ }
 {
     let i = at.0;
     pack(
@@ -56,39 +56,48 @@ pub fn bytes_at(message: &[u8], at: Bytes) -> u64
     )
 }
 
-// Before the first word: fifteen words 0 and the one that makes the register r. That is division the other way round.
-pub fn begin(r: u16) -> Held
-    ensures { λ h. ⌜ registerOf h ≡ r ⌝ }
+// The register, as many words as make the rest of a message whole blocks, and the block after them. The words end the first
+// block; the register is in its first word, or else in the second block.
+pub fn begin(r: u16, first: u64, count: Words, next: u64) -> Held
+    requires { ⌜ count .0 < 4 ⌝ }
+    ensures { λ h. ⌜ registerOf h ≡ afterHigh (crcWords r (take (count .0) (highLanes first))) next ⌝ }
 {
-    let x = (r as u64) << 48;
-    let a = x ^ (x << 5);
-    let q = a ^ (a << 10) ^ (x << 12);
-    let word = q ^ (q >> 4) ^ (q >> 11);
+    let top = (r as u64) << 48;
+    let bits = 16 * count.0;
     Held {
-        first: 0,
-        second: 0,
-        third: 0,
-        fourth: word >> 48 << 48,
+        first: (first ^ top) >> (48 - bits) >> 16,
+        second: next ^ (top << bits),
     }
 }
 
 // A block more: the first four words are put down again, and it takes the last place.
 pub fn join(h: Held, block: u64) -> Held
-    ensures { λ s. ⌜ registerOf s ≡ afterBlock (registerOf h) block ⌝ }
+    ensures { λ s. ⌜ registerOf s ≡ afterHigh (registerOf h) block ⌝ }
 {
+    let t = h.first ^ (h.first >> 32);
     Held {
-        first: h.first ^ h.second,
-        second: (h.first << 48) ^ h.third,
-        third: (h.first >> 16) ^ h.fourth,
-        fourth: h.first ^ block,
+        first: (t << 32) ^ (t >> 24) ^ h.second,
+        second: t ^ (t << 40) ^ block,
     }
 }
 
+// The block with its first word lowest, as the division takes it.
+fn turned(block: u64) -> u64
+    ensures { λ x. ⌜ lanes x ≡ highLanes block ⌝ }
+{
+    pack(
+        number::low_word(block),
+        number::low_word(block >> 16),
+        number::low_word(block >> 32),
+        number::low_word(block >> 48),
+    )
+}
+
+// The polynomial divides x^64 + x^48 + x^20 + 1: the first block's quotient by that is put down in the second.
 pub fn register(h: Held) -> u16
     ensures { λ r. ⌜ r ≡ registerOf h ⌝ }
 {
-    let a = crc_division::sixty_four(0, h.first);
-    let b = crc_division::sixty_four(a, h.second);
-    let c = crc_division::sixty_four(b, h.third);
-    crc_division::sixty_four(c, h.fourth)
+    let g = h.first ^ (h.first >> 16) ^ (h.first >> 44);
+    let q = g ^ (g >> 32);
+    crc_division::sixty_four(0, turned(q ^ (q << 20) ^ (q << 48) ^ h.second))
 }

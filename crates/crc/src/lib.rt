@@ -4,32 +4,43 @@ mod held;
 use base::Bytes;
 use base::Words;
 ghost use mathlib.Core.Path.{_≡_};
-ghost use lib.ListN.{drop};
+ghost use Prim.Native.Nat.{_≤_};
+ghost use lib.ListN.{length, drop};
 ghost use Rattle.crc.specs.Crc.{crcWords, crcBytes};
 
 // The register at the start of a message.
 pub const START: u16 = 0xffff;
 
-// A message of words: four at a time, and then the last ones.
+// A message of words: the first ones, so that the rest are whole blocks of four, and then block by block.
 pub fn words(start: u16, message: &[u16]) -> u16
     ensures { λ r. ⌜ r ≡ crcWords start (now (message .entry)) ⌝ }
 {
     let n = message.len();
-    let mut h = held::begin(start);
-    let mut i = 0;
-    while i + 4 <= n {
+    if n < 4 {
+        return few_words(start, message);
+    }
+    let head = n % 4;
+    let first = held::words_at(message, Words(0));
+    let mut h = held::begin(
+        start,
+        first,
+        Words(head),
+        held::words_at(message, Words(head)),
+    );
+    let mut i = head + 4;
+    while i < n {
         h = held::join(h, held::words_at(message, Words(i)));
         i += 4;
     }
-    last_words(held::register(h), message, Words(i))
+    held::register(h)
 }
 
-// The words from a place on, one at a time.
-fn last_words(start: u16, message: &[u16], from: Words) -> u16
-    ensures { λ r. ⌜ r ≡ crcWords start (drop (from .0) (now (message .entry))) ⌝ }
+// One word at a time.
+fn few_words(start: u16, message: &[u16]) -> u16
+    ensures { λ r. ⌜ r ≡ crcWords start (now (message .entry)) ⌝ }
 {
     let mut r = start;
-    let mut i = from.0;
+    let mut i = 0;
     while i < message.len() {
         r = crc_division::sixteen(r ^ message[i]);
         i += 1;
@@ -37,27 +48,41 @@ fn last_words(start: u16, message: &[u16], from: Words) -> u16
     r
 }
 
-// A message of bytes: eight at a time as four words, and then the last ones.
+// A message of bytes: an odd one, and then as words, two bytes to a word.
 pub fn bytes(start: u16, message: &[u8]) -> u16
     ensures { λ r. ⌜ r ≡ crcBytes start (now (message .entry)) ⌝ }
 {
     let n = message.len();
-    let mut h = held::begin(start);
-    let mut i = 0;
-    while i + 8 <= n {
+    if n < 8 {
+        return first_bytes(start, message, Bytes(n));
+    }
+    let head = n % 8;
+    let odd = head % 2;
+    let r = first_bytes(start, message, Bytes(odd));
+    let first = held::bytes_at(message, Bytes(odd));
+    let mut h = held::begin(
+        r,
+        first,
+        Words(head / 2),
+        held::bytes_at(message, Bytes(head)),
+    );
+    let mut i = head + 8;
+    while i < n {
         h = held::join(h, held::bytes_at(message, Bytes(i)));
         i += 8;
     }
-    last_bytes(held::register(h), message, Bytes(i))
+    held::register(h)
 }
 
-// The bytes from a place on, one at a time.
-fn last_bytes(start: u16, message: &[u8], from: Bytes) -> u16
-    ensures { λ r. ⌜ r ≡ crcBytes start (drop (from .0) (now (message .entry))) ⌝ }
+// The bytes up to a place, one at a time: those that are left take the register to the message's CRC.
+fn first_bytes(start: u16, message: &[u8], end: Bytes) -> u16
+    requires { ⌜ end .0 ≤ length (now message) ⌝ }
+    ensures { λ r. ⌜ crcBytes r (drop (end .0) (now (message .entry))) ≡ crcBytes start (now (message .entry)) ⌝ }
 {
+    let n = end.0;
     let mut r = start;
-    let mut i = from.0;
-    while i < message.len() {
+    let mut i = 0;
+    while i < n {
         r = crc_division::eight(r ^ ((message[i] as u16) << 8));
         i += 1;
     }

@@ -6,6 +6,7 @@ use Rattle.base.specs.Xor.{_xor_}
 use Rattle.base.proofs.Linear.{Linear, shr, low, after}
 use Rattle.crc_division.specs.Crc.{crcBit, crcStep, crcWords}
 use Rattle.crc_division.specs.Blocks.{lanes, afterBlock}
+use Rattle.crc_division.specs.Folding.{highLanes, afterHigh}
 use Rattle.crc_division.proofs.Linear.{xorLists, words-linear}
 use Rattle.crc_division.proofs.Powers.{by-powers}
 
@@ -26,3 +27,12 @@ into-block r x h =
     ap (afterBlock r) (sym (xor-zero-r x)) ∙ after-block-linear 0 r x 0
     ∙ ap (λ (n : ℕ). afterBlock 0 x xor n) (by-powers (λ n. afterBlock n 0) (afterBlock 0) (λ m n. after-block-linear m n 0 0) (λ m n. after-block-linear 0 0 m n) 16 tt r h)
     ∙ sym (after-block-linear 0 0 x r)
+
+-- ---- the first word highest
+
+pub high-lanes-linear : (x y : ℕ) → highLanes (x xor y) ≡ xorLists (highLanes x) (highLanes y)
+high-lanes-linear x y = cc (low 16 x y, lane 16 x y, lane 32 x y, lane 48 x y)
+
+pub after-high-linear : (r s x y : ℕ) → afterHigh (r xor s) (x xor y) ≡ afterHigh r x xor afterHigh s y
+unfolding afterHigh
+after-high-linear r s x y = ap (crcWords (r xor s)) (high-lanes-linear x y) ∙ words-linear r s (highLanes x) (highLanes y) refl

@@ -1,40 +1,55 @@
--- `crc::words` meets its contract: the words that are left take the register of what is held to the answer.
-use mathlib.Core.Path.{_≡_, ap, _∙_}
-use Prim.Native.Nat.{ℕ, _≤_, _-_}
+-- `crc::words` meets its contract: the words that are left, whole blocks, take the register of what is held to the answer.
+use mathlib.Core.Path.{_≡_, refl, _∙_}
+use Prim.Native.Nat.{ℕ, _+_, _*_, _%_, _<_, _≤_, _-_}
 use native.Mathlib.Omega.{arith}
-use lib.ListN.{length, drop}
+use lib.ListN.{length, getD, drop}
 use borrow.Author.Needs.{needs}
-use Rattle.crc.specs.Crc.{crcWords, crcWords}
-use Rattle.crc_division.specs.Blocks.{afterBlock}
+use Rattle.base.proofs.Walk.{folded-all}
+use Rattle.crc.specs.Crc.{crcStep, crcWords}
 use Rattle.crc.specs.Held.{registerOf}
-use Rattle.crc.proofs.Turns.{words-turn}
+use Rattle.crc.proofs.Turns.{Left, word-turn, more, begun}
 use Rattle.crc.proofs.words.Statement.{statement}
 use Rattle.crc.proofs.words.Tie as tie
 
 abbrev Inv-loop : tie.InvT-loop
-Inv-loop start message n h₀ i₀ h i = (i ≤ length message) × (crcWords (registerOf h) (drop i message) ≡ crcWords start message)
+Inv-loop start message n head first h₀ i₀ h i =
+    (i ≤ length message) × (i % 4 ≡ length message % 4) × (crcWords (registerOf h) (drop i message) ≡ crcWords start message)
 
 abbrev μ-loop : tie.MeasureT-loop
-μ-loop start message n h₀ i₀ h i = length message - i
+μ-loop start message n head first h₀ i₀ h i = length message - i
 
 loop-holds : tie.Need-loop-holds Inv-loop μ-loop
-loop-holds c = (omega arith, ap (λ (r : ℕ). crcWords r (c .before .before .args .message .now)) (c .begin .ensures))
-
-loop-again : tie.Need-loop-again Inv-loop μ-loop
-unfolding afterBlock
-loop-again c =
-    let l = c .before .before .before in (
+loop-holds c =
+    let s = c .before .before .before .before .before in
+    let m = s .args .message .now in
+    let k : length m % 4 < 4 = omega arith in
+    let place : 0 + 1 * (length m % 4) ≡ length m % 4 = omega arith in
+    let within : length m % 4 + 4 ≤ length m = omega arith in (
+      within,
       omega arith,
-      words-turn _ (l .before .before .before .args .message .now) _ _ (c .before .before .loop-test .taken)
-          (c .join .ensures ∙ ap (crcWords (registerOf (l .loop .h))) (c .before .words-at .ensures)) (l .loop .inv .1),
+      begun (Left 16 (crcWords (s .args .start) m) m) (λ i. getD m i 0) 1 (length m) (word-turn _ m) _ k 0 _ _ _ _ place within
+          (c .before .before .words-at .ensures) (c .before .words-at2 .ensures) (c .begin .ensures) refl,
     )
 
-returns : tie.Need-returns Inv-loop μ-loop
-returns c =
+loop-again : tie.Need-loop-again Inv-loop μ-loop
+loop-again c =
     let l = c .before .before .before in
-    c .last-words .ensures
-    ∙ ap (λ (r : ℕ). crcWords r (drop (l .loop .i) (l .before .before .before .args .message .now))) (c .before .register .ensures)
-    ∙ l .loop .inv .1
+    let s = l .before .before .before .before .before .before in
+    let m = s .args .message .now in
+    let i = l .loop .i in
+    let within : i + 4 ≤ length m = omega arith in (
+      within,
+      omega arith,
+      more (Left 16 (crcWords (s .args .start) m) m) (λ i. getD m i 0) 1 (length m) (word-turn _ m) i _ _ within
+          (c .before .words-at3 .ensures) (c .join .ensures) (l .loop .inv .2),
+    )
+
+returns-2 : tie.Need-returns-2 Inv-loop μ-loop
+returns-2 c =
+    let l = c .before .before in
+    let m = l .before .before .before .before .before .before .args .message .now in
+    let end : length m ≤ l .loop .i = omega arith in
+    c .register .ensures ∙ folded-all (crcStep 16) _ m _ end (l .loop .inv .2)
 
 pub words-spec : {M : Type 1} → statement M
 words-spec =
@@ -43,13 +58,16 @@ words-spec =
     Inv-loop
     μ-loop
     (λ c κs. search needs)
-    loop-holds
     (λ c. search needs)
+    (λ c κs. search needs)
+    (λ c κs. search needs)
+    (λ c κs. search needs)
+    (λ c. search needs)
+    loop-holds
     (λ c κs. search needs)
     (λ c κs. search needs)
     (λ c. search needs)
     (λ c. search needs)
     loop-again
     (λ c κs. search needs)
-    (λ c κs. search needs)
-    returns)
+    returns-2)

@@ -8,8 +8,8 @@ use Rattle.crc.proofs.held.join.Tie as tie
 returns : tie.Need-returns
 unfolding registerOf
 returns c =
-    let a = c .before .before .before .before .before .before .args in
-    joining.join (a .h .first) (a .h .second) (a .h .third) (a .h .fourth) (a .block) (omega arith)
+    let a = c .before .before .before .args in
+    joining.join (a .h .first) (a .h .second) (a .block) (omega arith)
 
 pub join-spec : {M : Type 1} → statement M
 join-spec = tie.close (tie.spec returns)

@@ -7,7 +7,7 @@ use lib.Dec.{lit≤}
 use lib.Pow.{shl-exact, low, high}
 use lib.Bits.{xor-comm, xor-shifted}
 use Rattle.base.specs.Xor.{_xor_}
-use Rattle.crc_division.specs.Blocks.{lanes}
+use Rattle.crc_division.specs.Folding.{highLanes}
 use Rattle.crc.proofs.held.pack.Statement.{statement}
 use Rattle.crc.proofs.held.pack.Tie as tie
 
@@ -20,15 +20,15 @@ word : (k over w under : ℕ) {n : ℕ} → n ≡ (over * 2 ^ 16 + w) * 2 ^ k + 
 word k over w under e h hw = ap (λ (n : ℕ). n / 2 ^ k % 2 ^ 16) e ∙ ap (λ (n : ℕ). n % 2 ^ 16) (high (over * 2 ^ 16 + w) k h) ∙ low over 16 hw
 
 digits : (a b c d : ℕ) → a < 65536 → b < 65536 → c < 65536 → d < 65536
-    → lanes (d * 2 ^ 48 + (c * 2 ^ 32 + (b * 2 ^ 16 + a))) ≡ a ∷ b ∷ c ∷ d ∷ []
+    → highLanes (a * 2 ^ 48 + (b * 2 ^ 32 + (c * 2 ^ 16 + d))) ≡ a ∷ b ∷ c ∷ d ∷ []
 digits a b c d ha hb hc hd =
-    let n = d * 2 ^ 48 + (c * 2 ^ 32 + (b * 2 ^ 16 + a)) in
-    let ea : n ≡ (d * 2 ^ 32 + c * 2 ^ 16 + b) * 2 ^ 16 + a = omega arith in
+    let n = a * 2 ^ 48 + (b * 2 ^ 32 + (c * 2 ^ 16 + d)) in
+    let ed : n ≡ (a * 2 ^ 32 + b * 2 ^ 16 + c) * 2 ^ 16 + d = omega arith in
     cc (
-      ap (λ (m : ℕ). m % 2 ^ 16) ea ∙ low (d * 2 ^ 32 + c * 2 ^ 16 + b) 16 ha,
-      word 16 (d * 2 ^ 16 + c) b a {n = n} (omega arith) ha hb,
-      word 32 d c (b * 2 ^ 16 + a) {n = n} (omega arith) (omega arith) hc,
-      word 48 0 d (c * 2 ^ 32 + (b * 2 ^ 16 + a)) {n = n} (omega arith) (omega arith) hd,
+      ap (λ (m : ℕ). m % 2 ^ 16) ed ∙ low (a * 2 ^ 32 + b * 2 ^ 16 + c) 16 hd,
+      word 16 (a * 2 ^ 16 + b) c d {n = n} (omega arith) hd hc,
+      word 32 a b (c * 2 ^ 16 + d) {n = n} (omega arith) (omega arith) hb,
+      word 48 0 a (b * 2 ^ 32 + (c * 2 ^ 16 + d)) {n = n} (omega arith) (omega arith) ha,
     )
 
 returns : tie.Need-returns
@@ -37,14 +37,14 @@ returns c =
     let b = c .args .b in
     let w = c .args .c in
     let d = c .args .d in
-    let ha : a < 65536 = c .fits .a .fits in
     let hb : b < 65536 = c .fits .b .fits in
-    let hc : w < 65536 = c .fits .c .fits in
-    ap lanes
-    (ap (λ (x : ℕ). x xor w * 2 ^ 32 % 2 ^ 64 xor d * 2 ^ 48 % 2 ^ 64) (put 16 a b (lit≤ tt) ha hb)
-    ∙ ap (λ (x : ℕ). x xor d * 2 ^ 48 % 2 ^ 64) (put 32 (b * 2 ^ 16 + a) w (lit≤ tt) (omega arith) hc)
-    ∙ put 48 (w * 2 ^ 32 + (b * 2 ^ 16 + a)) d (lit≤ tt) (omega arith) (c .fits .d .fits))
-    ∙ digits a b w d ha hb hc (c .fits .d .fits)
+    let hw : w < 65536 = c .fits .c .fits in
+    let hd : d < 65536 = c .fits .d .fits in
+    ap highLanes
+    (ap (λ (x : ℕ). x xor b * 2 ^ 32 % 2 ^ 64 xor a * 2 ^ 48 % 2 ^ 64) (put 16 d w (lit≤ tt) hd hw)
+    ∙ ap (λ (x : ℕ). x xor a * 2 ^ 48 % 2 ^ 64) (put 32 (w * 2 ^ 16 + d) b (lit≤ tt) (omega arith) hb)
+    ∙ put 48 (b * 2 ^ 32 + (w * 2 ^ 16 + d)) a (lit≤ tt) (omega arith) (c .fits .a .fits))
+    ∙ digits a b w d (c .fits .a .fits) hb hw hd
 
 pub pack-spec : {M : Type 1} → statement M
 pack-spec = tie.close (tie.spec returns)

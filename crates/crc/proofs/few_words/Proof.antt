@@ -1,4 +1,4 @@
--- `crc::last_words` meets its contract: the words that are left take the register to the answer.
+-- `crc::few_words` meets its contract: the words that are left take the register to the answer.
 use mathlib.Core.Path.{_≡_, refl, sym, _∙_}
 use Prim.Native.Nat.{_-_}
 use lib.ListN.{length, drop}
@@ -6,11 +6,11 @@ use borrow.Author.Needs.{needs}
 use Rattle.base.proofs.Walk.{folded-one, folded-all}
 use Rattle.crc.specs.Crc.{crcStep, crcWords}
 use Rattle.crc_division.proofs.Linear.{word-step}
-use Rattle.crc.proofs.last_words.Statement.{statement}
-use Rattle.crc.proofs.last_words.Tie as tie
+use Rattle.crc.proofs.few_words.Statement.{statement}
+use Rattle.crc.proofs.few_words.Tie as tie
 
 abbrev Inv-loop : tie.InvT-loop
-Inv-loop start message r₀ i₀ r i = crcWords r (drop i message) ≡ crcWords start (drop i₀ message)
+Inv-loop start message r₀ i₀ r i = crcWords r (drop i message) ≡ crcWords start message
 
 abbrev μ-loop : tie.MeasureT-loop
 μ-loop start message r₀ i₀ r i = length message - i
@@ -27,8 +27,8 @@ loop-again c =
 returns : tie.Need-returns Inv-loop μ-loop
 returns c = folded-all (crcStep 16) _ (c .before .before .before .args .message .now) _ (c .loop-test .left) (c .before .loop .inv)
 
-pub last-words-spec : {M : Type 1} → statement M
-last-words-spec =
+pub few-words-spec : {M : Type 1} → statement M
+few-words-spec =
     tie.close
     (tie.spec
     Inv-loop
