@@ -13,7 +13,7 @@ pub const TRAILER: Words = Words(4);
 pub const EDITION: u16 = 1;
 
 // the shortest chunk: its header, and a unit with one data word
-const SHORTEST_CHUNK: Words = Words(HEADER.0 + PARITY.0 + 1);
+pub const SHORTEST_CHUNK: Words = Words(HEADER.0 + PARITY.0 + 1);
 
 // the longest reel: a recording at the limit, all of it in shortest chunks; so much room is always enough for the writer
 pub const MOST: Words = Words(

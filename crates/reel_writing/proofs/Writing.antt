@@ -2,21 +2,21 @@
 use mathlib.Core.Path.{_≡_, refl, sym, ap, ap₂, _∙_}
 use mathlib.Core.Bool.{Bool, cond}
 use mathlib.Core.List.{List, _++_, append-assoc}
-use Prim.Native.Nat.{ℕ, _+_, _*_, _-_, _≤_, _<_}
+use Prim.Native.Nat.{ℕ, _+_, _*_, _-_, _/_, _≤_, _<_}
 use native.Mathlib.Nat.{zero-add}
 use native.Mathlib.Omega.{arith}
 use lib.ListN.{length, take, drop, length-append}
 use lib.Dec.{ltb}
 use borrow.Author.Tests.{ltb-false, lt-ltb, le-ltb}
 use Rattle.base.specs.Limit.{reelLimit}
-use Rattle.base.specs.Refusal.{wrongLength, noRoom, verdict, settled, answer}
+use Rattle.base.specs.Refusal.{wrongLength, noRoom, verdict, wrote, settled}
 use Rattle.base_room.specs.Room.{put}
-use Rattle.base.specs.declared.Written.{Written}
-use Rattle.base.proofs.Refused.{spared, answer-no, answer-yes, settled-refusal}
+use Rattle.base.proofs.Refused.{spared, answer-no, answer-yes}
 use Rattle.base_room.proofs.RoomLaws.{put-put, put-length}
 use Rattle.chunk.specs.Reading.{reading}
-use Rattle.reel.specs.Layout.{entryWidth, indexWords, trailer, tailWords, reelOf}
+use Rattle.reel.specs.Layout.{entryWidth, shortestChunk, indexWords, trailer, tailWords, reelWords, reelOf}
 use Rattle.reel_writing.specs.Writing.{reelLength, writeCauses, writeReply, writeRoom}
+use Rattle.reel.proofs.Fewest.{few-chunks}
 use Rattle.reel.proofs.OnReel.{index-length}
 use Rattle.reel_writing.proofs.trailer.Putting.{part-put}
 
@@ -49,33 +49,46 @@ reel-put sync ws room a b c count h ek ea eb ec =
     ∙ ap (λ (l : List ℕ). put l 0 room) (append-assoc ws index tail)
     ∙ ap (λ (x : ℕ). put (ws ++ (index ++ trailer index x n)) 0 room) ek
 
--- the writer's reply, where the recording is too long and where it is not
-pub too-long-refused : (sync : ℕ) (ws : List ℕ) (m : ℕ) → reelLimit < length ws → settled wrongLength 0 ≡ writeReply sync ws m
-unfolding writeReply settled answer
+-- ---- the verdict
+
+pub too-long-refused : (sync : ℕ) (ws : List ℕ) (m : ℕ) → reelLimit < length ws → wrongLength ≡ verdict (writeCauses sync ws m)
 too-long-refused sync ws m h = sym (simp (lt-ltb reelLimit (length ws) h))
 
-pub room-compared : (sync : ℕ) (ws : List ℕ) (m needed : ℕ) → length ws ≤ reelLimit → needed ≡ reelLength sync ws → settled (cond (ltb m needed) noRoom 0) needed ≡ writeReply sync ws m
-unfolding writeReply
-room-compared sync ws m needed h e =
-    ap (λ (x : ℕ). settled (cond (ltb m x) 3 0) x) e
-    ∙ sym (ap (λ (b : Bool). settled (cond b 1 (cond (ltb m (reelLength sync ws)) 3 0)) (reelLength sync ws)) (le-ltb reelLimit (length ws) h))
+module _ (sync : ℕ) (ws : List ℕ) (m : ℕ) (h : length ws ≤ reelLimit) where
+  pub room-compared : (needed : ℕ) → needed ≡ reelLength sync ws → cond (ltb m needed) noRoom 0 ≡ verdict (writeCauses sync ws m)
+  room-compared needed e =
+      ap (λ (x : ℕ). cond (ltb m x) noRoom 0) e ∙ sym (ap (λ (b : Bool). cond b wrongLength (cond (ltb m (reelLength sync ws)) noRoom 0)) (le-ltb reelLimit (length ws) h))
 
-module _ (sync : ℕ) (ws room : List ℕ) (r : Written) (e : r ≡ writeReply sync ws (length room)) where
-  number : r .refusal ≡ verdict (writeCauses sync ws (length room))
-  unfolding writeReply
-  number = ap (λ (x : Written). x .refusal) e ∙ settled-refusal (verdict (writeCauses sync ws (length room))) (reelLength sync ws)
+  -- there are an eleventh as many entries as words at the most
+  pub room-enough : reelWords (length ws) (length ws / shortestChunk) ≤ m → 0 ≡ verdict (writeCauses sync ws m)
+  room-enough enough =
+      let n : reelLength sync ws ≤ m = omega (arith, few-chunks sync ws) in
+      ap (λ (b : Bool). cond b noRoom 0) (sym (le-ltb m (reelLength sync ws) n)) ∙ room-compared (reelLength sync ws) refl
 
-  pub refused-untouched : (r .refusal ≡ 0 → ⊥) → room ≡ writeRoom sync ws room
+-- ---- what is written
+
+module _ (sync : ℕ) (ws room : List ℕ) (v : ℕ) (e : v ≡ verdict (writeCauses sync ws (length room))) where
+  pub refused-reply : (v ≡ 0 → ⊥) → settled v 0 ≡ writeReply sync ws (length room)
+  unfolding writeReply settled
+  refused-reply h =
+      answer-no v (λ x. wrote x 0) (wrote 0 0) h ∙ ap (λ (x : ℕ). wrote x 0) e
+      ∙ sym (answer-no (verdict (writeCauses sync ws (length room))) (λ x. wrote x 0) (wrote 0 (reelLength sync ws)) (λ z. h (e ∙ z)))
+
+  pub refused-untouched : (v ≡ 0 → ⊥) → room ≡ writeRoom sync ws room
   unfolding writeRoom
-  refused-untouched h = sym (answer-no _ _ _ (λ z. h (number ∙ z)))
+  refused-untouched h = sym (answer-no _ _ _ (λ z. h (e ∙ z)))
 
-  module _ (z : r .refusal ≡ 0) where
+  module _ (z : v ≡ 0) where
     pub accepted-short : length ws ≤ reelLimit
-    accepted-short = ltb-false reelLimit (length ws) (spared (writeCauses sync ws (length room)) refl (sym number ∙ z) .0)
+    accepted-short = ltb-false reelLimit (length ws) (spared (writeCauses sync ws (length room)) refl (sym e ∙ z) .0)
 
     pub accepted-fits : reelLength sync ws ≤ length room
-    accepted-fits = ltb-false (length room) (reelLength sync ws) (spared (writeCauses sync ws (length room)) refl (sym number ∙ z) .1 .0)
+    accepted-fits = ltb-false (length room) (reelLength sync ws) (spared (writeCauses sync ws (length room)) refl (sym e ∙ z) .1 .0)
+
+    pub accepted-reply : (n : ℕ) → n ≡ reelLength sync ws → settled 0 n ≡ writeReply sync ws (length room)
+    unfolding writeReply
+    accepted-reply n q = ap₂ settled (sym z ∙ e) q
 
     pub accepted-written : (c : List ℕ) → c ≡ put (reelOf sync ws) 0 room → c ≡ writeRoom sync ws room
     unfolding writeRoom
-    accepted-written c ec = ec ∙ sym (answer-yes _ _ _ (sym number ∙ z))
+    accepted-written c ec = ec ∙ sym (answer-yes _ _ _ (sym e ∙ z))
