@@ -1,5 +1,5 @@
 -- How the loops come on by words, said once for words and for pairs of bytes: k of four words, and then four.
-use mathlib.Core.Path.{_≡_, refl, subst, sym, ap, _∙_}
+use mathlib.Core.Path.{_≡_, refl, subst, sym, ap, ap₂, _∙_}
 use mathlib.Core.List.{List, [], _∷_}
 use Prim.Native.Nat.{ℕ, zero, suc, _+_, _*_, _<_, _≤_}
 use native.Mathlib.Nat.{add-assoc}
@@ -7,6 +7,7 @@ use native.Mathlib.Omega.{arith}
 use lib.ListN.{length, getD, take, drop}
 use Rattle.base.proofs.Walk.{folded-one}
 use Rattle.crc.specs.Crc.{crcStep, crcOver, crcWords}
+use Rattle.crc_division.specs.Blocks.{lanes, afterBlock}
 use Rattle.crc_division.specs.Folding.{highLanes, afterHigh}
 use Rattle.crc.specs.Held.{pairAt}
 use Rattle.crc.proofs.Laws.{word-bytes}
@@ -32,18 +33,24 @@ module _ (P : ℕ → ℕ → Type 0) (e : ℕ → ℕ) (w n : ℕ) (turn : (i r
   some-words (suc (suc (suc zero))) h i r b p = three-words i r b p
   some-words (suc (suc (suc (suc k)))) h i r b p = absurd (omega arith)
 
-  -- a block x
-  pub more : (i r x : ℕ) {s : ℕ} → i + w * 4 ≤ n → highLanes x ≡ four i → s ≡ afterHigh r x → P i r → P (i + w * 4) s
-  unfolding afterHigh
-  more i r x h words e' p =
-      subst (λ (s : ℕ). P (i + w * 4) s) (sym (e' ∙ ap (crcWords r) words))
+  -- a block of words
+  pub more : (i r : ℕ) (words : List ℕ) {s : ℕ} → i + w * 4 ≤ n → words ≡ four i → s ≡ crcWords r words → P i r → P (i + w * 4) s
+  more i r words h q e' p =
+      subst (λ (s : ℕ). P (i + w * 4) s) (sym (e' ∙ ap (crcWords r) q))
       (to (omega arith) (turn (i + w * 3) _ (omega arith) (three-words i r (omega arith) p)))
 
   -- k words of a block x, up to place j, and the block y after them
   pub begun : (k : ℕ) → k < 4 → (i j r x y : ℕ) {s : ℕ} → i + w * k ≡ j → j + w * 4 ≤ n → highLanes x ≡ four i → highLanes y ≡ four j
       → s ≡ afterHigh (crcWords r (take k (highLanes x))) y → P i r → P (j + w * 4) s
+  unfolding afterHigh
   begun k h i j r x y q b first next e' p =
-      more j _ y b next (e' ∙ ap (λ (l : List ℕ). afterHigh (crcWords r (take k l)) y) first) (to q (some-words k h i r (omega arith) p))
+      more j _ (highLanes y) b next (e' ∙ ap (λ (l : List ℕ). afterHigh (crcWords r (take k l)) y) first) (to q (some-words k h i r (omega arith) p))
+
+-- ---- a block x, turned round to y
+
+pub turned-round : (x y : ℕ) {r s : ℕ} → r ≡ s → highLanes y ≡ lanes x → afterHigh r y ≡ afterBlock s x
+unfolding afterHigh afterBlock
+turned-round x y = ap₂ crcWords
 
 -- ---- what is left of a message takes the register to z
 

@@ -1,10 +1,12 @@
--- What the code holds of a message until the end, for its private functions: eight words that have the message's register.
+-- What the code holds of a message until the end, for its private functions: eight words, or sixteen, that have the message's register.
 use mathlib.Core.List.{List, [], _∷_}
 use Prim.Native.Nat.{ℕ, _+_}
 use lib.ListN.{getD}
 use Rattle.base.specs.Number.{word}
+use Rattle.crc_division.specs.Blocks.{afterBlock}
 use Rattle.crc_division.specs.Folding.{afterHigh}
 use Rattle.crc.specs.declared.held.Held.{Held}
+use Rattle.crc.specs.declared.wide.Wide.{Wide}
 
 -- at a place of a message: four words, or four pairs of bytes, the high one first
 abbrev pub wordsAt : List ℕ → ℕ → List ℕ
@@ -19,3 +21,7 @@ pairsAt m i = pairAt m i ∷ pairAt m (i + 2) ∷ pairAt m (i + 4) ∷ pairAt m 
 -- the register of the eight words held
 unfoldable pub registerOf : Held → ℕ
 registerOf h = afterHigh (afterHigh 0 (h .first)) (h .second)
+
+-- and of the sixteen
+unfoldable pub registerOfWide : Wide → ℕ
+registerOfWide w = afterBlock (afterBlock (afterBlock (afterBlock 0 (w .first)) (w .second)) (w .third)) (w .fourth)

@@ -81,9 +81,9 @@ pub fn join(h: Held, block: u64) -> Held
     }
 }
 
-// The block with its first word lowest, as the division takes it.
-fn turned(block: u64) -> u64
-    ensures { λ x. ⌜ lanes x ≡ highLanes block ⌝ }
+// The block with its first word lowest, or the other way round.
+pub fn turned(block: u64) -> u64
+    ensures { λ x. ⌜ (lanes x ≡ highLanes block) × (highLanes x ≡ lanes block) ⌝ }
 {
     pack(
         number::low_word(block),

@@ -1,5 +1,6 @@
 // The 16-bit CRC with polynomial 1021h, most significant bit first, over words and over bytes, with no table.
 mod held;
+mod wide;
 
 use base::Bytes;
 use base::Words;
@@ -21,18 +22,19 @@ pub fn words(start: u16, message: &[u16]) -> u16
     }
     let head = n % 4;
     let first = held::words_at(message, Words(0));
-    let mut h = held::begin(
+    let h = held::begin(
         start,
         first,
         Words(head),
         held::words_at(message, Words(head)),
     );
+    let mut w = wide::widen(h);
     let mut i = head + 4;
     while i < n {
-        h = held::join(h, held::words_at(message, Words(i)));
+        w = wide::join(w, wide::words_at(message, Words(i)));
         i += 4;
     }
-    held::register(h)
+    held::register(wide::narrow(w))
 }
 
 // One word at a time.

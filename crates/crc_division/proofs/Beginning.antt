@@ -115,7 +115,7 @@ module _ (r x y : ℕ) (hr : r < 2 ^ 16) (hx : x < 2 ^ 64) where
   no-words =
       let e : rest 0 (top r) ≡ top r = omega arith in
       ap₂ (λ (a b : ℕ). afterHigh (afterHigh 0 a) (y xor b)) (none first fits) e
-      ∙ ap (λ (n : ℕ). afterHigh n (y xor top r)) nothing ∙ in-first 3 r y hr
+      ∙ ap (λ (n : ℕ). afterHigh n (y xor top r)) (nothing afterHigh after-high-linear) ∙ in-first 3 r y hr
 
   words : (k : ℕ) → afterHigh 0 (head (suc k) first) ≡ some (suc k) 0 first → rest (suc k) (top r) ≡ 0 → Begun (suc k)
   words k e f =

@@ -7,6 +7,7 @@ use lib.ListN.{length, drop}
 use borrow.Author.Needs.{needs}
 use Rattle.base.proofs.Walk.{folded-all}
 use Rattle.crc.specs.Crc.{crcStep, crcBytes}
+use Rattle.crc_division.specs.Folding.{afterHigh}
 use Rattle.crc.specs.Held.{pairAt, registerOf}
 use Rattle.crc.proofs.Turns.{Left, pair-turn, more, begun}
 use Rattle.crc.proofs.bytes.Statement.{statement}
@@ -40,6 +41,7 @@ loop-holds c =
     )
 
 loop-again : tie.Need-loop-again Inv-loop μ-loop
+unfolding afterHigh
 loop-again c =
     let l = c .before .before .before in
     let known = l .before .before .before .before .before .before in

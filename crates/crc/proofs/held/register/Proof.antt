@@ -14,7 +14,7 @@ returns : tie.Need-returns
 unfolding registerOf afterBlock afterHigh
 returns c =
     let h = c .before .before .before .before .before .before .args .h in
-    c .sixty-four .ensures ∙ ap (crcWords 0) (c .before .turned .ensures) ∙ joining.fold (h .first) (h .second) (omega arith)
+    c .sixty-four .ensures ∙ ap (crcWords 0) (c .before .turned .ensures .0) ∙ joining.fold (h .first) (h .second) (omega arith)
 
 pub register-spec : {M : Type 1} → statement M
 register-spec = tie.close (tie.spec (λ c κs. search needs) (λ c κs. search needs) returns)

@@ -4,7 +4,7 @@ use Rattle.crc.proofs.held.turned.Statement.{statement}
 use Rattle.crc.proofs.held.turned.Tie as tie
 
 returns : tie.Need-returns
-returns c = cc
+returns c = (cc, cc)
 
 pub turned-spec : {M : Type 1} → statement M
 turned-spec =
