@@ -7,16 +7,13 @@ use native.Mathlib.Omega.{arith}
 use lib.Bits.{xor-zero-r, xor-lt}
 use lib.ListN.{take, length-take}
 use Rattle.base.specs.Xor.{_xor_}
-use Rattle.crc_division.specs.Crc.{crcBit, crcBits, crcStep, crcWords}
+use Rattle.crc_division.specs.Crc.{crcBits, crcStep, crcWords}
 use Rattle.crc_division.specs.Folding.{highLanes, afterHigh}
 use Rattle.crc_division.proofs.Linear.{xorLists, word-step, words-linear}
-use Rattle.crc_division.proofs.Blocks.{high-lanes-linear, after-high-linear}
-use Rattle.crc_division.proofs.Joining.{blocks, nothing}
+use Rattle.crc_division.proofs.Blocks.{top, top-lanes, high-lanes-linear, after-high-linear}
+use Rattle.crc_division.proofs.Joining.{blocks, nothing, still}
 
--- the code's lines: the register at the top of a block, the first k words of a block, and the register without its first k words
-abbrev top : ℕ → ℕ
-top r = r * 2 ^ 48 % 2 ^ 64
-
+-- the code's lines: the first k words of a block, and the register at its top without its first k words
 abbrev head : ℕ → ℕ → ℕ
 head k x = x / 2 ^ (48 - 16 * k) / 2 ^ 16
 
@@ -45,14 +42,6 @@ some-linear k r s x y =
 either : (r : ℕ) → crcStep 16 0 r ≡ crcStep 16 r 0
 either r = word-step 0 r ∙ sym (word-step r 0 ∙ ap (crcBits 16) (xor-zero-r r))
 
-top-lanes : (r : ℕ) → r < 2 ^ 16 → highLanes (top r) ≡ r ∷ 0 ∷ 0 ∷ 0 ∷ []
-top-lanes r h =
-    let a : top r / 2 ^ 48 % 2 ^ 16 ≡ r = omega arith in
-    let b : top r / 2 ^ 32 % 2 ^ 16 ≡ 0 = omega arith in
-    let c : top r / 2 ^ 16 % 2 ^ 16 ≡ 0 = omega arith in
-    let d : top r % 2 ^ 16 ≡ 0 = omega arith in
-    cc
-
 in-first : (k r x : ℕ) → r < 2 ^ 16 → some (suc k) 0 (x xor top r) ≡ some (suc k) r x
 in-first k r x h =
     some-linear (suc k) 0 0 x (top r)
@@ -62,10 +51,6 @@ in-first k r x h =
     ∙ ap (some (suc k) r) (xor-zero-r x)
 
 -- ---- zeros before the words
-
-still : crcStep 16 0 0 ≡ 0
-unfolding crcBit crcStep
-still = refl
 
 module _ (x : ℕ) (h : x < 2 ^ 64) where
   none : head 0 x ≡ 0

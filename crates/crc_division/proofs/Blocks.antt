@@ -1,6 +1,8 @@
 -- The register after a block is linear in the register before it and in the block, and the register can go into the block's first word.
 use mathlib.Core.Path.{_≡_, refl, sym, ap, _∙_}
-use Prim.Native.Nat.{ℕ, _/_, _%_, _^_, _<_}
+use mathlib.Core.List.{[], _∷_}
+use Prim.Native.Nat.{ℕ, _*_, _/_, _%_, _^_, _<_}
+use native.Mathlib.Omega.{arith}
 use lib.Bits.{xor-zero-r}
 use Rattle.base.specs.Xor.{_xor_}
 use Rattle.base.proofs.Linear.{Linear, shr, low, after}
@@ -36,3 +38,16 @@ high-lanes-linear x y = cc (low 16 x y, lane 16 x y, lane 32 x y, lane 48 x y)
 pub after-high-linear : (r s x y : ℕ) → afterHigh (r xor s) (x xor y) ≡ afterHigh r x xor afterHigh s y
 unfolding afterHigh
 after-high-linear r s x y = ap (crcWords (r xor s)) (high-lanes-linear x y) ∙ words-linear r s (highLanes x) (highLanes y) refl
+
+-- ---- a word at the top of a block
+
+abbrev pub top : ℕ → ℕ
+top r = r * 2 ^ 48 % 2 ^ 64
+
+pub top-lanes : (r : ℕ) → r < 2 ^ 16 → highLanes (top r) ≡ r ∷ 0 ∷ 0 ∷ 0 ∷ []
+top-lanes r h =
+    let a : top r / 2 ^ 48 % 2 ^ 16 ≡ r = omega arith in
+    let b : top r / 2 ^ 32 % 2 ^ 16 ≡ 0 = omega arith in
+    let c : top r / 2 ^ 16 % 2 ^ 16 ≡ 0 = omega arith in
+    let d : top r % 2 ^ 16 ≡ 0 = omega arith in
+    cc
