@@ -18,6 +18,7 @@ pub struct Held {
     pub second: u64,
 }
 
+// The block of four words.
 fn pack(a: u16, b: u16, c: u16, d: u16) -> u64
     ensures { λ x. ⌜ highLanes x ≡ a ∷ b ∷ c ∷ d ∷ [] ⌝ }
 {

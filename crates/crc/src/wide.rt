@@ -9,6 +9,7 @@ ghost use lib.ListN.{length};
 ghost use Rattle.crc_division.specs.Blocks.{lanes, afterBlock};
 ghost use Rattle.crc.specs.Held.{wordsAt, registerOf, registerOfWide};
 
+// Sixteen words, four to a block.
 pub struct Wide {
     pub first: u64,
     pub second: u64,
@@ -24,6 +25,7 @@ pub fn words_at(message: &[u16], at: Words) -> u64
     held::turned(held::words_at(message, at))
 }
 
+// Eight words with eight zeros before them.
 pub fn widen(h: Held) -> Wide
     ensures { λ w. ⌜ registerOfWide w ≡ registerOf h ⌝ }
 {
@@ -47,6 +49,7 @@ pub fn join(w: Wide, block: u64) -> Wide
     }
 }
 
+// The first eight words, and then the others a block at a time.
 pub fn narrow(w: Wide) -> Held
     ensures { λ h. ⌜ registerOf h ≡ registerOfWide w ⌝ }
 {

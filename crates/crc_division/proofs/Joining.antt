@@ -1,5 +1,5 @@
 -- A message that is held as some blocks, and the first of them put down again further on. All is linear in what is held and in what
--- comes; so each law is a test at the 64 powers of two, computed: that a block alone has the register of what is put down for it.
+-- comes; so it is enough that a block alone has the register of what is put down for it: a test at the powers of two, computed.
 use mathlib.Core.Path.{_≡_, refl, sym, ap, ap₂, _∙_}
 use mathlib.Core.List.{List, [], _∷_, foldl}
 use Prim.Native.Nat.{ℕ, zero, suc, _*_, _/_, _%_, _^_, _<_}
