@@ -1,3 +1,4 @@
 pub mod Header
 pub mod Reading
+pub mod Within
 pub mod Examples

@@ -24,3 +24,9 @@ pub enum Found {
     Chunk(Entry, Words),
     End,
 }
+
+// Where the sync word stands, from a place on.
+enum Sync {
+    At(Words),
+    Nowhere,
+}

@@ -1,39 +1,60 @@
 // The search for the next chunk.
 use crate::Entry;
 use crate::Found;
+use crate::Sync;
 use crate::confirm;
 use crate::header;
 use base::Words;
 ghost use mathlib.Core.Path.{_≡_};
 ghost use Rattle.chunk.specs.Reading.{nextFrom};
+ghost use Rattle.chunk.specs.Within.{SyncFrom};
 
-// The next confirmed chunk at or after a place, and the place past it. In a stretch of noise each word is looked at once, and one bound is tested:
-// where no header has room the search has ended.
-pub fn next(words: &[u16], sync: u16, from: Words) -> Found
-    ensures { λ r. ⌜ r ≡ nextFrom sync (now (words .entry)) (from .0) ⌝ }
+// The next place that has the sync word and a word after it. In a stretch of noise each word is looked at once, with one bound to test.
+fn next_sync(words: &[u16], sync: u16, from: Words) -> Sync
+    ensures { λ r. ⌜ SyncFrom sync (now (words .entry)) (from .0) r ⌝ }
 {
-    let places = confirm::places(words).0;
+    if words.len() < header::HEADER.0 {
+        return Sync::Nowhere;
+    }
+    let places = words.len() - 1;
     let mut at = from.0;
     let found = loop {
         if places <= at {
-            break Found::End;
+            break Sync::Nowhere;
         }
         if words[at] == sync {
-            let here = confirm::check_synced(words, sync, Words(at));
-            if header::is_chunk(here) {
-                let word = words[at + 1];
-                let end = at + header::HEADER.0 + header::size_of(word).0;
-                break Found::Chunk(
-                    Entry {
-                        position: Words(at),
-                        header: word,
-                        end: header::is_at_end(here),
-                    },
-                    Words(end),
-                );
-            }
+            break Sync::At(Words(at));
         }
         at += 1;
+    };
+    found
+}
+
+// The next confirmed chunk at or after a place, and the place past it.
+pub fn next(words: &[u16], sync: u16, from: Words) -> Found
+    ensures { λ r. ⌜ r ≡ nextFrom sync (now (words .entry)) (from .0) ⌝ }
+{
+    let mut place = from.0;
+    let found = loop {
+        let sought = next_sync(words, sync, Words(place));
+        let Sync::At(synced) = sought else {
+            break Found::End;
+        };
+        let at = synced.0;
+        let here = confirm::check_synced(words, sync, synced);
+        if header::is_chunk(here) {
+            let word = words[at + 1];
+            let end = at + header::HEADER.0 + header::size_of(word).0;
+            break Found::Chunk(
+                Entry {
+                    position: synced,
+                    header: word,
+                    end: header::is_at_end(here),
+                },
+                Words(end),
+            );
+        }
+        place = at + 1;
     };
     found
 }
