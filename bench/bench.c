@@ -52,8 +52,8 @@ static double smaller(double a, double b)
 static void print_heading(const char *title)
 {
     printf("\n%s\n\n", title);
-    printf("| %-46s |    ours | plain C |  best C | ours/plain | ours/best |\n", "work");
-    printf("|%.48s|--------:|--------:|--------:|-----------:|----------:|\n",
+    printf("| %-46s |    ours | plain C |  by 8 C |  best C | ours/plain | ours/by 8 | ours/best |\n", "work");
+    printf("|%.48s|--------:|--------:|--------:|--------:|-----------:|----------:|----------:|\n",
            "------------------------------------------------");
 }
 
@@ -64,12 +64,14 @@ static void print_row(const struct row *row)
     }
     double ns[IMPLEMENTATIONS];
     time_all(&row->task, ns);
-    double plain = smaller(ns[1], ns[2]), best = smaller(plain, smaller(ns[3], ns[4])), per = (double)row->per;
+    double plain = smaller(ns[1], ns[2]), sliced = smaller(ns[3], ns[4]), per = (double)row->per;
+    double best = smaller(smaller(plain, sliced), smaller(ns[5], ns[6]));
     if (row->task.work == COPY_WORDS) {
-        printf("| %-46s |         |         | %7.3f |            |           |\n", row->name, best / per);
+        printf("| %-46s |         |         |         | %7.3f |            |           |           |\n", row->name,
+               best / per);
     } else {
-        printf("| %-46s | %7.3f | %7.3f | %7.3f | %10.2f | %9.2f |\n", row->name, ns[0] / per, plain / per, best / per,
-               ns[0] / plain, ns[0] / best);
+        printf("| %-46s | %7.3f | %7.3f | %7.3f | %7.3f | %10.2f | %9.2f | %9.2f |\n", row->name, ns[0] / per,
+               plain / per, sliced / per, best / per, ns[0] / plain, ns[0] / sliced, ns[0] / best);
     }
     fflush(stdout);
 }

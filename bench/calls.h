@@ -27,6 +27,6 @@ struct calls {
 };
 
 /* The proved library, then the C implementations, each by two compilers. */
-extern const struct calls ours, plain_gcc, plain_clang, best_gcc, best_clang;
+extern const struct calls ours, plain_gcc, plain_clang, sliced_gcc, sliced_clang, best_gcc, best_clang;
 
 #endif

@@ -4,6 +4,10 @@
 
 /* ---- CRC ---- */
 
+#ifdef CRC_BY_SLICES
+#include "slices.h"
+#else
+
 /* The CRC is linear: that of a byte is the exclusive or of those of its bits. */
 #define ENTRY(byte)                                                                                                   \
     (((byte) & 1 ? 0x1021 : 0) ^ ((byte) & 2 ? 0x2042 : 0) ^ ((byte) & 4 ? 0x4084 : 0) ^ ((byte) & 8 ? 0x8108 : 0)     \
@@ -38,6 +42,8 @@ static uint16_t crc_bytes(uint16_t start, const uint8_t *message, size_t bytes)
     }
     return crc;
 }
+
+#endif
 
 /* ---- parity ---- */
 

@@ -5,10 +5,11 @@
 #include <string.h>
 
 const struct calls *const implementations[IMPLEMENTATIONS] = {
-    &ours, &plain_gcc, &plain_clang, &best_gcc, &best_clang
+    &ours, &plain_gcc, &plain_clang, &sliced_gcc, &sliced_clang, &best_gcc, &best_clang
 };
 static const char *const implementation_names[IMPLEMENTATIONS] = {
-    "ours", "plain C by gcc", "plain C by clang", "best C by gcc", "best C by clang"
+    "ours", "plain C by gcc", "plain C by clang", "sliced C by gcc", "sliced C by clang", "best C by gcc",
+    "best C by clang"
 };
 
 const char *const work_names[WORKS] = {

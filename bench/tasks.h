@@ -55,7 +55,7 @@ union room {
 };
 extern union room lent;
 
-enum { IMPLEMENTATIONS = 5 };
+enum { IMPLEMENTATIONS = 7 };
 extern const struct calls *const implementations[IMPLEMENTATIONS];
 
 /* Makes the call so many times, and gives its last answer. */
