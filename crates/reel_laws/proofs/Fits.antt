@@ -11,7 +11,6 @@ use borrow.Author.Tests.{eqb-true, eqb-false, leb-true, le-ltb, not-false}
 use Rattle.base.proofs.Booleans.{and-left, and-right}
 use Rattle.base.specs.Limit.{reelLimit}
 use Rattle.base.specs.Refusal.{wrongReel, noRoom, verdict}
-use Rattle.base.specs.declared.Written.{Written}
 use Rattle.base.proofs.Refused.{spared, answer-yes, answer-number, settled-refusal}
 use Rattle.base_room.proofs.RoomLaws.{writer-left}
 use Rattle.chunk.specs.declared.Entry.{Entry}
@@ -46,15 +45,23 @@ reel-read sync ws h =
 
 -- ---- what the writer leaves
 
+-- the number in the writer's reply
+write-number : (sync : ℕ) (ws : List ℕ) (m : ℕ) → writeReply sync ws m .refusal ≡ verdict (writeCauses sync ws m)
+unfolding writeReply
+write-number sync ws m = settled-refusal (verdict (writeCauses sync ws m)) (reelLength sync ws)
+
 module _ (sync : ℕ) (ws room : List ℕ) (z : writeReply sync ws (length room) .refusal ≡ 0) where
+  nothing-refused : verdict (writeCauses sync ws (length room)) ≡ 0
+  nothing-refused = sym (write-number sync ws (length room)) ∙ z
+
   short : length ws ≤ reelLimit
-  short = accepted-short sync ws room (writeReply sync ws (length room)) refl z
+  short = accepted-short sync ws room _ refl nothing-refused
 
   written-is-reel : written sync ws room ≡ reelOf sync ws
   unfolding reelOf writeReply writeRoom
   written-is-reel =
       writer-left (verdict (writeCauses sync ws (length room))) (reelLength sync ws) (reelOf sync ws) room (tailed-length ws (length ws) (reading sync ws))
-      (accepted-fits sync ws room (writeReply sync ws (length room)) refl z) z
+      (accepted-fits sync ws room _ refl nothing-refused) z
 
   tail-is-tail : writtenTail sync ws room ≡ tailWords (length ws) (reading sync ws)
   unfolding reelOf
@@ -149,8 +156,9 @@ accepted-is-written sync r room z fit =
     let is : ws ≡ recordingOf r = ap (λ (m : ℕ). take m r) n in
     let l : length r ≡ reelLength sync ws = sym (ap (reelLength sync) is ∙ ap₂ reelWords (recording-length sync r a) (sym (count-fresh sync r a)) ∙ sym (reel-length sync r a)) in
     let accepts : writeReply sync ws (length room) .refusal ≡ 0 =
-    ap (λ (x : Written). x .refusal) (sym (room-compared sync ws (length room) (reelLength sync ws) (omega (arith, ap length is, recording-length sync r a, n-within sync r a)) refl))
-    ∙ settled-refusal _ _ ∙ ap (λ (b : Bool). cond b noRoom 0) (le-ltb (length room) (reelLength sync ws) (omega arith))
+    write-number sync ws (length room)
+    ∙ sym (room-compared sync ws (length room) (omega (arith, ap length is, recording-length sync r a, n-within sync r a)) (reelLength sync ws) refl)
+    ∙ ap (λ (b : Bool). cond b noRoom 0) (le-ltb (length room) (reelLength sync ws) (omega arith))
     in
     (accepts, written-is-reel sync ws room accepts ∙ ap (reelOf sync) is ∙ sym (accepted-is-reel sync r a))
 
