@@ -3,7 +3,7 @@ use base::Words;
 use base::number;
 use base::size::PARITY;
 ghost use mathlib.Core.Path.{_≡_};
-ghost use Prim.Native.Nat.{_+_, _*_, _<_, _≤_};
+ghost use Prim.Native.Nat.{_+_, _*_, _/_, _<_, _≤_, min};
 ghost use lib.ListN.{length};
 ghost use Rattle.base.specs.Size.{dataWidth};
 ghost use Rattle.parity_rows.specs.Parity.{number, bitFrom, parityWords, parities, statedParity};
@@ -56,6 +56,20 @@ fn bits_from(words: &[u16], at: Words) -> u64
     )
 }
 
+// The row that the data end in, three words at the most, as one number.
+fn last_row(data: &[u16], at: Words) -> u64
+    requires { ⌜ (at .0 ≤ dataWidth) × (length (now «data») ≤ at .0 + 3) ⌝ }
+    ensures { λ r. ⌜ r ≡ number 64 (bitFrom (now («data» .entry)) (at .0)) ⌝ }
+{
+    let first = at.0;
+    pack_row(
+        base_room::word_at(data, Words(first)),
+        base_room::word_at(data, Words(first + 1)),
+        base_room::word_at(data, Words(first + 2)),
+        0,
+    )
+}
+
 // The sums with row r: its parity at its place, and its bits exclusive-ored into the columns.
 fn add(s: Sums, w: u64, r: usize) -> Sums
     requires { ⌜ r < 64 ⌝ }
@@ -66,6 +80,14 @@ fn add(s: Sums, w: u64, r: usize) -> Sums
         rows: s.rows ^ (odd << (63 - r as u64)),
         columns: s.columns ^ w,
     }
+}
+
+// How many of the rows are whole, in data of n words.
+fn whole_in(n: Words) -> usize
+    ensures { λ r. ⌜ r ≡ min (n .0 / 4) 64 ⌝ }
+{
+    let whole = n.0 / 4;
+    if whole < 64 { whole } else { 64 }
 }
 
 // The sums of the first rows, all of them whole. Words stay as they are loaded up to the end, so that the loop has no more than a load and a count of
@@ -93,12 +115,12 @@ fn whole_rows(data: &[u16], count: usize) -> Sums
 pub fn parity(data: &[u16]) -> Sums
     ensures { λ s. ⌜ s ≡ parities (now («data» .entry)) ⌝ }
 {
-    let whole = data.len() / 4;
-    if 64 <= whole {
-        return whole_rows(data, 64);
+    let whole = whole_in(Words(data.len()));
+    let s = whole_rows(data, whole);
+    if whole == 64 {
+        return s;
     }
-    let last = bits_from(data, Words(4 * whole));
-    add(whole_rows(data, whole), last, whole)
+    add(s, last_row(data, Words(4 * whole)), whole)
 }
 
 // The parity that a unit's parity words state.
