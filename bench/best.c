@@ -5,21 +5,7 @@
 
 enum { SLICE = 16, ROW_BYTES = 8, KEPT_ROWS = 4 };
 
-/* table[i][byte] is the CRC, from register 0, of the byte and i bytes 0 after it: bytes are looked up side by side. */
-static uint16_t table[SLICE][256];
-
-__attribute__((constructor)) static void make_tables(void)
-{
-    for (unsigned byte = 0; byte < 256; byte++) {
-        unsigned crc = byte << 8;
-        for (int i = 0; i < SLICE; i++) {
-            for (int move = 0; move < 8; move++) {
-                crc = (crc << 1 ^ (crc & 0x8000 ? 0x1021 : 0)) & 0xFFFF;
-            }
-            table[i][byte] = (uint16_t)crc;
-        }
-    }
-}
+#include "tables.h"
 
 /* at most 8 words at once */
 static inline uint16_t slice_words(uint16_t crc, const uint16_t *message, size_t words)
