@@ -1,4 +1,4 @@
--- FORMAT, "Refusal numbers": the calls for C code, to which an answer is one number of four words: the refusal, then three parts.
+-- FORMAT, "Answers to C code": an answer is one number of four words, the refusal and then three parts.
 use Prim.Native.Nat.{ℕ, _+_, _-_, _*_, _/_, _^_, _<_}
 use mathlib.Core.Path.{_≡_}
 use mathlib.Core.Bool.{Bool, cond}

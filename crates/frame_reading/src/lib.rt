@@ -25,7 +25,7 @@ pub struct Frame {
     pub end: bool,
 }
 
-// A reply, and whether the data of a unit are not as they stand in it: where none are, they need no second look.
+// A reply, and whether the data of a unit are not given as they stand: where all are, they are copied without a second look.
 struct Inspected {
     frame: Frame,
     touched: bool,
