@@ -40,6 +40,7 @@ pub fn cause(number: u8, holds: bool, others: u8) -> u8
 }
 
 // A writer's reply: `length` words where nothing is refused.
+#[tactic(auto, unfolding(crate::specs::Refusal::settled, crate::specs::Refusal::answer))]
 pub fn settle(verdict: u8, length: Words) -> Written
     ensures { result ≡ settled verdict length.0 }
 {

@@ -1,4 +1,6 @@
 // Reading and writing lent memory at any place: every call is total.
+#![tactic(auto)]
+
 ghost use Rattle.std.specs.Prelude.{◌≡◌, ◌++◌, get_or};
 ghost use Rattle.base_room.specs.Room.{put};
 

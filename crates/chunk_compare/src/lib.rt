@@ -1,4 +1,6 @@
 // Two recordings compared: their listed chunks are paired in order, and of each pair the first word that differs is told.
+#![tactic(auto)]
+
 ghost use Rattle.std.specs.Prelude.{◌≡◌, ◌<◌, min, length};
 ghost use Rattle.chunk_compare.specs.Pairs.{first_difference, pair_number, pair_said};
 ghost use Rattle.chunk_compare.specs.Compare.{refused, compare_reply, compare_room};
@@ -8,14 +10,14 @@ use chunk::{Found, search};
 use chunk_reading::counting;
 
 // What is told of two chunks: they are the same, or differ first at this word, counted from their sync words.
-#[derive(Drop)]
+#[derive(Clone, Copy)]
 pub enum Pair {
     Same,
     Differs(Words),
 }
 
 // What a comparison answers: the pairs, and the chunks of each recording that are left over.
-#[derive(Drop)]
+#[derive(Clone, Copy)]
 pub struct Compared {
     pub refusal: u8,
     pub pairs: usize,

@@ -1,1 +1,2 @@
 // Laws of the comparison of two recordings; no code.
+#![tactic(auto)]

@@ -1,1 +1,2 @@
 // Laws of chunks and of the reading of a recording; no code.
+#![tactic(auto)]

@@ -1,4 +1,6 @@
 // The outline of a recording: the number of image runs and of health runs.
+#![tactic(auto)]
+
 mod run;
 
 ghost use Rattle.std.specs.Prelude.{◌≡◌};
@@ -8,7 +10,7 @@ use base::{Words, limit, refusal};
 use chunk::{Found, header, search};
 
 // The reply: the number of runs of each kind.
-#[derive(Drop)]
+#[derive(Clone, Copy)]
 pub struct Runs {
     pub refusal: u8,
     pub image: usize,

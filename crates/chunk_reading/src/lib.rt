@@ -1,11 +1,13 @@
 // The reading of a recording: its chunks counted, and one of them by its place.
+#![tactic(auto)]
+
 pub mod counting;
 pub mod place;
 
 use base::Words;
 
 // The chunks of words, the words inside none of them, and the mark that one of the chunks ends with the words.
-#[derive(Drop)]
+#[derive(Clone, Copy)]
 pub struct Counts {
     pub chunks: usize,
     pub skipped: Words,
@@ -13,7 +15,7 @@ pub struct Counts {
 }
 
 // What a survey of a recording answers: the same, and the number of a refusal.
-#[derive(Drop)]
+#[derive(Clone, Copy)]
 pub struct Survey {
     pub refusal: u8,
     pub chunks: usize,
@@ -22,7 +24,7 @@ pub struct Survey {
 }
 
 // What stands in the header of a listed chunk, and the mark that it ends with the recording.
-#[derive(Drop)]
+#[derive(Clone, Copy)]
 pub struct Heading {
     pub refusal: u8,
     pub kind: u16,

@@ -8,7 +8,7 @@ use chunk::{Entry, Found, search};
 use chunk_reading::{Survey, counting};
 
 // A chunk's entry, and the place past the chunk.
-#[derive(Drop)]
+#[derive(Clone, Copy)]
 pub struct Step {
     pub entry: Entry,
     pub end: Words,

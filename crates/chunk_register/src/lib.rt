@@ -1,4 +1,6 @@
 // The register: the listed chunks of a recording, one entry for each, in memory that the caller lends.
+#![tactic(auto)]
+
 mod finder;
 
 ghost use Rattle.std.specs.Prelude.{◌≡◌, length};

@@ -1,4 +1,6 @@
 // The writer of one chunk.
+#![tactic(auto)]
+
 ghost use Rattle.std.specs.Prelude.{◌≡◌, ◌≤◌, length};
 ghost use Rattle.chunk_writing.specs.Writing.{writable, header_word, write_reply, write_room};
 

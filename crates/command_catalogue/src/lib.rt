@@ -1,4 +1,6 @@
 // The catalogues of the two X-ray monitors: which fields and further bytes a command may have. One judgement, for the reader and for the writer.
+#![tactic(auto)]
+
 mod table;
 
 ghost use Rattle.std.specs.Prelude.{◌≡◌, eqb, drop};

@@ -6,7 +6,7 @@ use crate::{C1XS, DCIXS, EMERGENCY, OPERATING, PATCH, STANDBY};
 use base::number::either;
 
 // What the table permits of a command: its type, its qualifier, an address and data other than zero, and its mode.
-#[derive(Drop)]
+#[derive(Clone, Copy)]
 pub struct Permits {
     pub command_type: bool,
     pub qualifier: bool,

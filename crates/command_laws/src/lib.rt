@@ -1,1 +1,2 @@
 // Laws of commands: reader and writer agree; no code.
+#![tactic(auto)]

@@ -1,4 +1,6 @@
 // A command, read by one of two catalogues.
+#![tactic(auto)]
+
 ghost use Rattle.std.specs.Prelude.{◌≡◌, false, ◌≤◌, length};
 ghost use Rattle.base.specs.Refusal.{verdict};
 ghost use Rattle.command_catalogue.specs.Rules.{asked_wrong};
@@ -11,7 +13,7 @@ use command_catalogue::{asked_wrong, judge};
 use space_packet::{crc_wrong, header_wrong};
 
 // The reader's reply: the fields and the number of further bytes.
-#[derive(Drop)]
+#[derive(Clone, Copy)]
 pub struct Command {
     pub refusal: u8,
     pub fields: Fields,

@@ -1,4 +1,6 @@
 // A command, written by one of two catalogues.
+#![tactic(auto)]
+
 ghost use Rattle.std.specs.Prelude.{◌≡◌, ◌≤◌, ◌<◌, length};
 ghost use Rattle.space_packet.specs.Layout.{laid};
 ghost use Rattle.space_packet.specs.Header.{sequence_counts};

@@ -1,5 +1,7 @@
 // Two recordings compared chunk by chunk. It reads the two files that its arguments name, each a sync word and a recording, and writes a line for each pair of
 // chunks and one for the chunks that are left over; what they say is the library's.
+#![tactic(auto)]
+
 mod lines;
 
 use base::size::PARITY;

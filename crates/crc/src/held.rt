@@ -9,7 +9,7 @@ ghost use Rattle.crc.specs.Held.{words_at, pair_at, pairs_at, register_of};
 use base::{Bytes, Words, number};
 
 // Eight words, four to a block; a block has its first word highest, as the bits go by.
-#[derive(Drop)]
+#[derive(Clone, Copy)]
 pub struct Held {
     pub first: u64,
     pub second: u64,

@@ -1,4 +1,6 @@
 // The 16-bit CRC with polynomial 1021h, most significant bit first, over words and over bytes, with no table.
+#![tactic(auto)]
+
 mod held;
 mod wide;
 

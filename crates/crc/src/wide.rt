@@ -9,7 +9,7 @@ use crate::held::Held;
 use base::Words;
 
 // Sixteen words, four to a block.
-#[derive(Drop)]
+#[derive(Clone, Copy)]
 pub struct Wide {
     pub first: u64,
     pub second: u64,

@@ -1,5 +1,7 @@
 // Division by the polynomial of the CRC, many bits at a time and with no table. q is the quotient: the bits that fall off the
 // top on the way. The register is what the quotient times the polynomial leaves below.
+#![tactic(auto)]
+
 ghost use Rattle.std.specs.Prelude.{◌≡◌};
 ghost use Rattle.crc_division.specs.Crc.{crc_bits};
 ghost use Rattle.crc_division.specs.Blocks.{after_block};

@@ -1,5 +1,7 @@
 // Reads lines of a width, a register and a message, all in hexadecimal digits, and prints each with the message's CRC.
 // A line that begins with # is printed as it is.
+#![tactic(auto)]
+
 ghost use Rattle.std.specs.Prelude.{◌<◌, ◌≤◌, length};
 ghost use Rattle.io.specs.Counts.{IsPrefixLen};
 

@@ -1,4 +1,6 @@
 // The calls for C code to link, under names of their own. To C a slice is two arguments, a pointer and a number of words or bytes, and a reply is one number.
+#![tactic(auto)]
+
 mod answer;
 pub mod commands;
 pub mod packets;

@@ -1,4 +1,6 @@
 // Frames: what a frame is, whether it is complete, and going through a recording by its frames and strays.
+#![tactic(auto)]
+
 pub mod pieces;
 mod shape;
 
@@ -10,7 +12,7 @@ use chunk::{Entry, header};
 
 // What is said of a frame: its camera, how many chunks it has, whether it is complete or cut, the words of its data, and the mark that the chunk which
 // ends with the recording is one of its own chunks, or the health chunk that completes it.
-#[derive(Drop)]
+#[derive(Clone, Copy)]
 pub struct Description {
     pub camera: u16,
     pub chunks: usize,
@@ -21,7 +23,7 @@ pub struct Description {
 
 // What comes next in a recording: a frame, complete or cut, with the place where it stands, or a stray continuation, as it is listed, each with the place
 // where it ends, to go on from; or nothing more.
-#[derive(Drop)]
+#[derive(Clone, Copy)]
 pub enum Piece {
     Frame(Words, Description, Words),
     Stray(Entry, Words),

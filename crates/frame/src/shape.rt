@@ -10,7 +10,7 @@ use chunk::{Check, header};
 use health::packet;
 
 // How far a frame reaches: its chunks, its words and its data words.
-#[derive(Drop)]
+#[derive(Clone, Copy)]
 pub struct Reach {
     pub chunks: usize,
     pub end: Words,

@@ -1,1 +1,2 @@
 // Laws of frames; no code.
+#![tactic(auto)]

@@ -1,5 +1,7 @@
 // An asked frame: what it is, whether its data can be had, and its data. Each call starts from the one before it, so a frame is measured once, judged once
 // and read once.
+#![tactic(auto)]
+
 mod picture;
 
 ghost use Rattle.std.specs.Prelude.{◌≡◌, length, drop};
@@ -12,7 +14,7 @@ use base::{Words, limit, refusal};
 use frame::{Description, Piece, pieces};
 
 // The reply of every call here: what is said of a frame; zeros and false where it is refused.
-#[derive(Drop)]
+#[derive(Clone, Copy)]
 pub struct Frame {
     pub refusal: u8,
     pub camera: u16,
@@ -23,7 +25,7 @@ pub struct Frame {
 }
 
 // A reply, and whether the data of a unit are not given as they stand: where all are, they are copied without a second look.
-#[derive(Drop)]
+#[derive(Clone, Copy)]
 struct Inspected {
     frame: Frame,
     touched: bool,

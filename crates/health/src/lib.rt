@@ -1,2 +1,4 @@
 // Health packets: judged, read and written.
+#![tactic(auto)]
+
 pub mod packet;

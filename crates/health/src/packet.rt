@@ -13,7 +13,7 @@ use base::{Words, Written, refusal};
 const BODY: Words = Words(29);
 
 // What the packet reader gives of a sound packet: its type word, its time and the 29 words after these.
-#[derive(Drop)]
+#[derive(Clone, Copy)]
 pub struct Packet {
     pub refusal: u8,
     pub packet_type: u16,

@@ -1,4 +1,6 @@
 // The flat field checksums of a health packet of type 8; a packet of another type is refused by 7.
+#![tactic(auto)]
+
 ghost use Rattle.std.specs.Prelude.{◌≡◌, ◌+◌, ◌≤◌, length, take, drop};
 ghost use Rattle.base.specs.Refusal.{verdict};
 ghost use Rattle.health_checksums.specs.Checksums.{checksums_causes, checksums_reply};

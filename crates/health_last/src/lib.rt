@@ -1,4 +1,6 @@
 // The last sound packet of a type in each of two recordings, a science recording and a health recording, and the newer of the two.
+#![tactic(auto)]
+
 mod seek;
 
 ghost use Rattle.std.specs.Prelude.{◌≡◌, ◌+◌, ◌≤◌, length};
@@ -16,14 +18,14 @@ use std::num;
 const TIME: Words = Words(2);
 
 // The place of a packet that was looked for.
-#[derive(Drop)]
+#[derive(Clone, Copy)]
 enum Sought {
     At(Words),
     Nowhere,
 }
 
 // What was found in a science recording, and whether the chunk that it stands in ends with the recording.
-#[derive(Drop)]
+#[derive(Clone, Copy)]
 struct Marked {
     found: Sought,
     end: bool,
@@ -31,7 +33,7 @@ struct Marked {
 
 // Where the packet stands: in the science recording (1) or in the health recording (2), at a place of it; and whether it stands
 // in a chunk that ends with the science recording.
-#[derive(Drop)]
+#[derive(Clone, Copy)]
 pub struct Place {
     pub refusal: u8,
     pub recording: u8,

@@ -1,1 +1,2 @@
 // Laws of health packets: what is written is read; no code.
+#![tactic(auto)]

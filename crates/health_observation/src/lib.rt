@@ -1,4 +1,6 @@
 // The observations of a camera in a health packet: types 4, 5 and 6 for cameras 1, 2 and 3. A packet of another type is refused by 7.
+#![tactic(auto)]
+
 ghost use Rattle.std.specs.Prelude.{◌≡◌, ◌≤◌, length, get_or};
 ghost use Rattle.base.specs.Number.{high_byte, low_byte, bit_set};
 ghost use Rattle.base.specs.Size.{packet_width};
@@ -9,7 +11,7 @@ use base::{Words, number};
 use health::packet;
 
 // What a camera does, by the mode byte.
-#[derive(Drop)]
+#[derive(Clone, Copy)]
 pub enum Mode {
     Engineering,
     HighResolution,
@@ -19,7 +21,7 @@ pub enum Mode {
 }
 
 // The fields of an observation packet. `mode_word` is word 5 with its low byte, `others` are words 8 to 15.
-#[derive(Drop)]
+#[derive(Clone, Copy)]
 pub struct Observed {
     pub refusal: u8,
     pub camera: u16,

@@ -1,4 +1,6 @@
 // The single event upsets of a health packet of type 10; a packet of another type is refused by 7.
+#![tactic(auto)]
+
 ghost use Rattle.std.specs.Prelude.{◌≡◌, map, ◌+◌, ◌%◌, ◌≤◌};
 ghost use Rattle.base.specs.Refusal.{verdict};
 ghost use Rattle.health_upsets.specs.Upsets.{last_filled, upsets_causes, upset_at, oldest_first, refused, upsets_reply};
@@ -7,7 +9,7 @@ use base::{Words, number};
 use health::packet;
 
 // One single event upset.
-#[derive(Drop)]
+#[derive(Clone, Copy)]
 pub struct Upset {
     pub address: u16,
     pub time: u16,
@@ -15,7 +17,7 @@ pub struct Upset {
 }
 
 // The fields of an upset packet, its entries oldest first.
-#[derive(Drop)]
+#[derive(Clone, Copy)]
 pub struct UpsetTable {
     pub refusal: u8,
     pub total: u16,

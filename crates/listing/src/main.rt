@@ -1,5 +1,7 @@
 // The listing of a recording. It reads the sync word and the recording from standard input, and writes the lines of FORMAT, "Listing program"; what they
 // say is the library's.
+#![tactic(auto)]
+
 mod lines;
 
 ghost use Rattle.std.specs.Prelude.{◌≤◌, length};

@@ -1,4 +1,6 @@
 // Parity units: written, judged, checked and repaired.
+#![tactic(auto)]
+
 ghost use Rattle.std.specs.Prelude.{◌≡◌, ◌-◌, ◌%◌, ◌≤◌, length};
 ghost use Rattle.parity.specs.Unit.{reply, refused, named, five_cases, judge_reply, check_reply, check_room, write_reply, write_room};
 
@@ -7,7 +9,7 @@ use base::{Words, Written, refusal};
 
 // What is found of a unit: the case (0 sound, 1 a parity bit was hit, 2 a data bit was hit and is repaired), the parity or data
 // word and the bit that was hit, zeros if sound, and the number of data words.
-#[derive(Drop)]
+#[derive(Clone, Copy)]
 pub struct Judged {
     pub refusal: u8,
     pub case: u8,

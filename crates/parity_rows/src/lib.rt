@@ -1,4 +1,6 @@
 // The parity of data, taken as 64 rows of 64 bits: in one pass by rows of four words, zeros past the end.
+#![tactic(auto)]
+
 ghost use Rattle.std.specs.Prelude.{◌≡◌, ◌+◌, ◌*◌, ◌/◌, ◌<◌, ◌≤◌, min, length};
 ghost use Rattle.base.specs.Size.{data_width};
 ghost use Rattle.parity_rows.specs.Parity.{number, bit_from, parity_words, parities, stated_parity};
@@ -8,7 +10,7 @@ use base::size::PARITY;
 use base::{Words, number};
 
 // A digit for each row and one for each column, the first highest.
-#[derive(Drop)]
+#[derive(Clone, Copy)]
 pub struct Sums {
     pub rows: u64,
     pub columns: u64,

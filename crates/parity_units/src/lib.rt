@@ -1,5 +1,7 @@
 // The units of a payload, which splits into units of 264 words, the last one possibly shorter. Every function takes a payload of any length: a last part
 // that is too short for a unit is refused by the unit judge, and has no data.
+#![tactic(auto)]
+
 ghost use Rattle.std.specs.Prelude.{◌≡◌, cond, ◌+◌, ◌-◌, ◌≤◌, min, length, drop, leb};
 ghost use Rattle.base.specs.Size.{parity_width, unit_width};
 ghost use Rattle.parity_units.specs.Split.{units_in, any_damaged, data_words_in};
@@ -10,7 +12,7 @@ use base::{Words, refusal};
 use parity::Judged;
 
 // How many units there are of each outcome.
-#[derive(Drop)]
+#[derive(Clone, Copy)]
 pub struct Outcomes {
     pub sound: usize,
     pub hit: usize,
@@ -20,7 +22,7 @@ pub struct Outcomes {
 
 // What is found of all units of a payload: whether one is refused with 6, and whether the data of one are not given as they stand, for it is refused or
 // a data bit of it was hit.
-#[derive(Drop)]
+#[derive(Clone, Copy)]
 pub struct Harm {
     pub damaged: bool,
     pub touched: bool,

@@ -1,4 +1,6 @@
 // A program's input: the bytes of a file that an argument names, and the words that they are.
+#![tactic(auto)]
+
 ghost use Rattle.std.specs.Prelude.{◌+◌, ◌≤◌, length};
 ghost use Rattle.io.specs.Counts.{IsPrefixLen};
 
@@ -13,7 +15,7 @@ pub const WORDS: Words = Words(1 + limit::LISTING_RECORDING.0);
 pub const ROOM: Bytes = Bytes(2 * WORDS.0 + 1);
 
 // What came of a file: it could not be read, it is refused, or its words end here.
-#[derive(Drop)]
+#[derive(Clone, Copy)]
 pub struct Heard {
     pub failed: bool,
     pub refusal: u8,

@@ -1,4 +1,6 @@
 // A program's input: the words that its bytes are.
+#![tactic(auto)]
+
 ghost use Rattle.std.specs.Prelude.{◌≡◌, ◌+◌, ◌*◌, length, ltb};
 ghost use Rattle.program_input.specs.Input.{words_reply, words_room};
 

@@ -1,4 +1,6 @@
 // A program's output: text and numbers are gathered on a page that the caller lends, and written when it is full and at the end.
+#![tactic(auto)]
+
 ghost use Rattle.std.specs.Prelude.{◌≡◌, ◌+◌, length, leb};
 ghost use Rattle.base_room.specs.Room.{put};
 ghost use Rattle.program_output.specs.Output.{page_size, to_reply, append_reply, decimal};
@@ -13,7 +15,7 @@ pub const PAGE: Bytes = Bytes(4096);
 const DIGITS: Bytes = Bytes(20);
 
 // Where the bytes go, how many of them stand on the page, and whether any were lost.
-#[derive(Drop)]
+#[derive(Clone, Copy)]
 pub struct Out {
     pub descriptor: i32,
     pub used: Bytes,

@@ -1,10 +1,12 @@
 // A program's input: the bytes of a descriptor. What they are is the descriptor's; that they are counted within the room is proved.
+#![tactic(auto)]
+
 ghost use Rattle.io.specs.Counts.{IsPrefixLen};
 
 use base::Bytes;
 
 // How many bytes came, or that reading failed.
-#[derive(Drop)]
+#[derive(Clone, Copy)]
 pub struct Taken {
     pub failed: bool,
     pub count: Bytes,

@@ -1,1 +1,2 @@
 // The promises of the library in one place; no code.
+#![tactic(auto)]

@@ -1,4 +1,6 @@
 // A reel: a recording with its index and a trailer, as it is stored. Its layout, and its reader.
+#![tactic(auto)]
+
 mod index;
 pub mod layout;
 mod trailer;
@@ -9,7 +11,7 @@ ghost use Rattle.reel.specs.Reading.{refused, read_reply};
 use base::{Words, limit, refusal};
 
 // What the reader answers: the words of the recording, and the number of entries.
-#[derive(Drop)]
+#[derive(Clone, Copy)]
 pub struct Reel {
     pub refusal: u8,
     pub n: Words,

@@ -8,7 +8,7 @@ use crate::layout;
 use base::Words;
 
 // What the trailer's four words say: the entries, the words of the recording before them, the CRC and the edition.
-#[derive(Drop)]
+#[derive(Clone, Copy)]
 pub struct Trailer {
     pub count: usize,
     pub n: Words,

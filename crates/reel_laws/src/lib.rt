@@ -1,1 +1,2 @@
 // Laws of reels; no code.
+#![tactic(auto)]

@@ -1,4 +1,6 @@
 // The writer of a reel.
+#![tactic(auto)]
+
 mod index;
 mod trailer;
 

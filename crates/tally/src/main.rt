@@ -1,5 +1,7 @@
 // The tally over recordings. It reads the files that its arguments name, each a sync word and a recording, one after the other, and writes the thirty numbers;
 // what they are is the library's.
+#![tactic(auto)]
+
 mod lines;
 
 use libc::STDOUT_FILENO;

@@ -1,4 +1,6 @@
 // A running tally over many recordings: thirty numbers that the caller keeps, and each recording adds to.
+#![tactic(auto)]
+
 mod sum;
 
 ghost use Rattle.std.specs.Prelude.{◌≡◌};

@@ -1,1 +1,2 @@
 // Laws of the running tally; no code.
+#![tactic(auto)]

@@ -1,5 +1,7 @@
 // The tally at its limit, which no files reach. It reads the recording that its argument names, and adds it to tallies near the limit: in each place alone,
 // then in all. For each it writes what is answered, the refusal number and the thirty numbers.
+#![tactic(auto)]
+
 use libc::STDOUT_FILENO;
 use program_files::{ROOM, WORDS};
 use program_output::{Out, PAGE};

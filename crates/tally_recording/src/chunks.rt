@@ -15,7 +15,7 @@ use chunk::{Entry, Found, header, search};
 use health::packet;
 
 // What is counted of the listed chunks.
-#[derive(Drop)]
+#[derive(Clone, Copy)]
 pub struct Listed {
     pub skipped: u32,
     pub chunks: [u32; 5],

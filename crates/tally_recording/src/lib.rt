@@ -1,4 +1,6 @@
 // The tally of one recording: thirty numbers.
+#![tactic(auto)]
+
 mod chunks;
 mod pieces;
 
@@ -10,7 +12,7 @@ use base::{limit, refusal};
 
 // Recordings, their words, the skipped ones among these; listed chunks (image of camera 0 to 3, health); frames, complete and cut, and strays; sound packets
 // of type 1 to 15; units sound, with a parity bit hit, repaired, and not repairable.
-#[derive(Drop)]
+#[derive(Clone, Copy)]
 pub struct Tally {
     pub recordings: u32,
     pub words: u32,
@@ -24,7 +26,7 @@ pub struct Tally {
 }
 
 // The tally with a recording, or the number of a refusal.
-#[derive(Drop)]
+#[derive(Clone, Copy)]
 pub struct Counted {
     pub refusal: u8,
     pub tally: Tally,

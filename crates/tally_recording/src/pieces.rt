@@ -7,7 +7,7 @@ use base::Words;
 use frame::Piece;
 
 // What is counted of the frames and strays.
-#[derive(Drop)]
+#[derive(Clone, Copy)]
 pub struct Framed {
     pub complete: u32,
     pub cut: u32,

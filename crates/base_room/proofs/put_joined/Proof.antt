@@ -10,29 +10,26 @@ use Rattle.base_room.proofs.RoomLaws.{put-none, put-put}
 use Rattle.base_room.proofs.put_joined.Statement.{statement}
 use Rattle.base_room.proofs.put_joined.Tie as tie
 
-returns : tie.Need-returns
+returns : tie.Need-returns-then-room-n
 returns c =
-    let a = c.before.before.before.before.args in
+    let a = c.args in
     sym (put-none _ 0 _ (omega (arith, length-append a.first.now a.second.now)))
 
-returns-2 : tie.Need-returns-2
+returns-2 : tie.Need-returns-then-room-n-2
 returns-2 c =
-    let a = c.before.before.before.before.before.args in
+    let a = c.args in
     sym (put-none _ 0 _ (omega (arith, length-append a.first.now a.second.now)))
 
-returns-3 : tie.Need-returns-3
+returns-3 : tie.Need-returns
 returns-3 c =
-    let second = c.before.before in
-    let first = second.before.before.before.before in
-    let tested = first.before.before in
-    let a = tested.before.before.before.before.before.args in
-    second.put-words2.ensures
-    ∙ ap (put a.second.now (length a.first.now)) first.put-words.ensures
+    let a = c.args in
+    c.put_words-2.ensures
+    ∙ ap (put a.second.now (length a.first.now)) c.put_words.ensures
     ∙ ap (λ (n : ℕ). put a.second.now n (put a.first.now 0 a.room.now)) (sym (zero-add (length a.first.now)))
-    ∙ put-put a.first.now a.second.now 0 a.room.now (omega (arith, tested.if2.false, tested.before.if1.false))
+    ∙ put-put a.first.now a.second.now 0 a.room.now (omega (arith, c.if-room-n-2.false, c.if-room-n.false))
 
-pub put-joined-spec : {M : Type 1} → statement M
-put-joined-spec =
+pub put_joined_spec : {M : Type 1} → statement M
+put_joined_spec =
     tie.close
     (tie.spec
     returns

@@ -9,33 +9,33 @@ use Rattle.base_room.proofs.Pasting.{Pasted, pasted-none, pasted-more, pasted-al
 use Rattle.base_room.proofs.put_words.Statement.{statement}
 use Rattle.base_room.proofs.put_words.Tie as tie
 
-abbrev invariant-loop : tie.invariant-loop
-invariant-loop words room₀ from n i₀ room i = Pasted words room₀ from room i
+abbrev invariant-loop-i : tie.invariant-loop-i
+invariant-loop-i words room₀ from n i₀ room i = Pasted words room₀ from room i
 
-abbrev decreases-loop : tie.decreases-loop
-decreases-loop words room₀ from n i₀ room i = length words - i
+abbrev decreases-loop-i : tie.decreases-loop-i
+decreases-loop-i words room₀ from n i₀ room i = length words - i
 
-returns : tie.Need-returns invariant-loop decreases-loop
+returns : tie.Need-returns-then-room-n invariant-loop-i decreases-loop-i
 returns c = sym (put-none _ _ _ (omega arith))
 
-returns-2 : tie.Need-returns-2 invariant-loop decreases-loop
+returns-2 : tie.Need-returns-then-room-n-2 invariant-loop-i decreases-loop-i
 returns-2 c = sym (put-none _ _ _ (omega arith))
 
-loop-holds : tie.Need-loop-init invariant-loop decreases-loop
+loop-holds : tie.Need-loop-i-init invariant-loop-i decreases-loop-i
 loop-holds c = pasted-none _ _ _ (omega arith)
 
-loop-again : tie.Need-loop-preserved invariant-loop decreases-loop
-loop-again c = pasted-more _ _ _ _ _ c.before.before.loop.invariant c.before.loop-test.true
+loop-again : tie.Need-loop-i-preserved invariant-loop-i decreases-loop-i
+loop-again c = pasted-more _ _ _ _ _ c.loop-i.invariant c.loop-i-test.true
 
-returns-3 : tie.Need-returns-3 invariant-loop decreases-loop
-returns-3 c = pasted-all _ _ _ _ _ c.before.loop.invariant c.loop-test.false
+returns-3 : tie.Need-returns invariant-loop-i decreases-loop-i
+returns-3 c = pasted-all _ _ _ _ _ c.loop-i.invariant c.loop-i-test.false
 
-pub put-words-spec : {M : Type 1} → statement M
-put-words-spec =
+pub put_words_spec : {M : Type 1} → statement M
+put_words_spec =
     tie.close
     (tie.spec
-    invariant-loop
-    decreases-loop
+    invariant-loop-i
+    decreases-loop-i
     returns
     (λ c. search rules)
     returns-2

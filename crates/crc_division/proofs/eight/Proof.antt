@@ -21,5 +21,5 @@ returns c =
     (and-shl (λ r. rest 16 (q r)) (after q (rest 16) q-linear (rest-linear 16)) 16 8) (bits-linear 8) 16 tt
     c.args.r c.ranges.r.fits
 
-pub eight-spec : {M : Type 1} → statement M
-eight-spec = tie.close (tie.spec returns)
+pub eight_spec : {M : Type 1} → statement M
+eight_spec = tie.close (tie.spec returns)

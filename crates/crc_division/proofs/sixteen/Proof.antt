@@ -23,5 +23,5 @@ returns c =
     by-powers (λ r. rest 16 (q r)) (crc_bits 16) (after q (rest 16) q-linear (rest-linear 16)) (bits-linear 16) 16 tt
     c.args.r c.ranges.r.fits
 
-pub sixteen-spec : {M : Type 1} → statement M
-sixteen-spec = tie.close (tie.spec returns)
+pub sixteen_spec : {M : Type 1} → statement M
+sixteen_spec = tie.close (tie.spec returns)

@@ -74,11 +74,11 @@ code-after-block = by-powers code (after_block 0) code-linear (λ x y. after-blo
 returns : tie.Need-returns
 unfolding code
 returns c =
-    let r = c.before.args.r in
-    let b = c.before.args.block in
+    let r = c.args.r in
+    let b = c.args.block in
     let small : r < 2 ^ 64 = omega arith in
-    c.low-word.ensures ∙ code-after-block (b xor r) (xor_lt 64 b r c.before.ranges.block.fits small)
-    ∙ sym (into_block r b c.before.ranges.r.fits)
+    c.low_word.ensures ∙ code-after-block (b xor r) (xor_lt 64 b r c.ranges.block.fits small)
+    ∙ sym (into_block r b c.ranges.r.fits)
 
-pub sixty-four-spec : {M : Type 1} → statement M
-sixty-four-spec = tie.close (tie.spec (λ c κs. search rules) returns)
+pub sixty_four_spec : {M : Type 1} → statement M
+sixty_four_spec = tie.close (tie.spec (λ c κs. search rules) returns)

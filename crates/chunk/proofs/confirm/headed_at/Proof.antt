@@ -7,21 +7,21 @@ use Rattle.chunk.proofs.Headers.{headed-none, headed-by-words}
 use Rattle.chunk.proofs.confirm.headed_at.Statement.{statement}
 use Rattle.chunk.proofs.confirm.headed_at.Tie as tie
 
-returns : tie.Need-returns
-returns c = let a = c.before.before.before.before.args in sym (headed-none a.sync a.words.now a.at.0 (omega arith))
+returns : tie.Need-returns-then-places-place
+returns c = let a = c.args in sym (headed-none a.sync a.words.now a.at.0 (omega arith))
 
-returns-2 : tie.Need-returns-2
+returns-2 : tie.Need-returns-then-words-place
 returns-2 c =
-    let a = c.before.before.before.before.before.before.args in
-    sym (headed-by-words a.sync a.words.now a.at.0 (omega arith) ∙ rw (ne_eqb _ _ c.if2.true))
+    let a = c.args in
+    sym (headed-by-words a.sync a.words.now a.at.0 (omega arith) ∙ rw (ne_eqb _ _ c.if-words-place.true))
 
-returns-3 : tie.Need-returns-3
+returns-3 : tie.Need-returns
 returns-3 c =
-    let a = c.before.before.before.before.before.before.before.before.args in
-    c.legal-word.ensures ∙ sym (headed-by-words a.sync a.words.now a.at.0 (omega arith) ∙ rw (eq-eqb _ _ c.before.before.if2.false))
+    let a = c.args in
+    c.legal_word.ensures ∙ sym (headed-by-words a.sync a.words.now a.at.0 (omega arith) ∙ rw (eq-eqb _ _ c.if-words-place.false))
 
-pub headed-at-spec : {M : Type 1} → statement M
-headed-at-spec =
+pub headed_at_spec : {M : Type 1} → statement M
+headed_at_spec =
     tie.close
     (tie.spec
     (λ c κs. search rules)

@@ -8,27 +8,25 @@ use Rattle.chunk.proofs.Headers.{legal-empty, legal-image, legal-health}
 use Rattle.chunk.proofs.confirm.legal_word.Statement.{statement}
 use Rattle.chunk.proofs.confirm.legal_word.Tie as tie
 
-returns : tie.Need-returns
-returns c = sym (legal-empty _ (sym c.before.before.size-of.ensures ∙ c.if1.true))
+returns : tie.Need-returns-then-size-eq0
+returns c = sym (legal-empty _ (sym c.size_of-size.ensures ∙ c.if-size-eq0.true))
 
 -- the size is not 0
-some : (c : tie.Else1) → 1 ≤ size c.before.before.before.args.header
-some c = omega (arith, c.before.before.size-of.ensures)
+some : (c : tie.Else-size-eq0) → 1 ≤ size c.args.header
+some c = omega (arith, c.size_of-size.ensures)
 
-returns-2 : tie.Need-returns-2
+returns-2 : tie.Need-returns-then-kind-eq0
 returns-2 c =
-    let k = c.before.before in
-    c.image-size.ensures ∙ ap image_size k.before.before.before.size-of.ensures
-    ∙ sym (legal-image _ (some k.before) (sym k.kind-of.ensures ∙ c.before.if2.true))
+    c.image_size.ensures ∙ ap image_size c.size_of-size.ensures
+    ∙ sym (legal-image _ (some c.before.before.before) (sym c.kind_of-kind.ensures ∙ c.if-kind-eq0.true))
 
-returns-3 : tie.Need-returns-3
+returns-3 : tie.Need-returns
 returns-3 c =
-    let k = c.before.before.before in
-    rw (c.health-size.ensures, k.before.before.before.size-of.ensures, c.before.camera-of.ensures)
-    (sym (legal-health _ (some k.before) (λ z. c.before.before.if2.false (k.kind-of.ensures ∙ z))))
+    rw (c.health_size.ensures, c.size_of-size.ensures, c.camera_of-camera.ensures)
+    (sym (legal-health _ (some c.before.before.before.before) (λ z. c.if-kind-eq0.false (c.kind_of-kind.ensures ∙ z))))
 
-pub legal-word-spec : {M : Type 1} → statement M
-legal-word-spec =
+pub legal_word_spec : {M : Type 1} → statement M
+legal_word_spec =
     tie.close
     (tie.spec
     (λ c κs. search rules)

@@ -5,13 +5,13 @@ use Rattle.chunk.specs.Header.{legal_size}
 use Rattle.chunk.proofs.header.legal_size.Statement.{statement}
 use Rattle.chunk.proofs.header.legal_size.Tie as tie
 
-returns : tie.Need-returns
+returns : tie.Need-returns-then-kind-eq0
 unfolding legal_size
-returns c = rw (c.image-size.ensures, eq-eqb _ _ c.before.if1.true)
+returns c = rw (c.image_size.ensures, eq-eqb _ _ c.if-kind-eq0.true)
 
-returns-2 : tie.Need-returns-2
+returns-2 : tie.Need-returns
 unfolding legal_size
-returns-2 c = rw (c.health-size.ensures, ne_eqb _ _ c.before.if1.false)
+returns-2 c = rw (c.health_size.ensures, ne_eqb _ _ c.if-kind-eq0.false)
 
-pub legal-size-spec : {M : Type 1} → statement M
-legal-size-spec = tie.close (tie.spec (λ c κs. search rules) returns (λ c κs. search rules) returns-2)
+pub legal_size_spec : {M : Type 1} → statement M
+legal_size_spec = tie.close (tie.spec (λ c κs. search rules) returns (λ c κs. search rules) returns-2)

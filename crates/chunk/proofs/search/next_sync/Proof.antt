@@ -12,47 +12,44 @@ use Rattle.chunk.proofs.Steps.{found-later, found-last}
 use Rattle.chunk.proofs.search.next_sync.Statement.{statement}
 use Rattle.chunk.proofs.search.next_sync.Tie as tie
 
-abbrev invariant-loop : tie.invariant-loop
-invariant-loop words sync places at₀ at = (at₀ ≤ at) × (next_from sync words at₀ ≡ next_from sync words at)
+abbrev invariant-loop-at : tie.invariant-loop-at
+invariant-loop-at words sync places at₀ at = (at₀ ≤ at) × (next_from sync words at₀ ≡ next_from sync words at)
 
-abbrev decreases-loop : tie.decreases-loop
-decreases-loop words sync places at₀ at = length words - at
+abbrev decreases-loop-at : tie.decreases-loop-at
+decreases-loop-at words sync places at₀ at = length words - at
 
-loop-holds : tie.Need-loop-init invariant-loop decreases-loop
+loop-holds : tie.Need-loop-at-init invariant-loop-at decreases-loop-at
 loop-holds c = (omega arith, refl)
 
-returns : tie.Need-returns invariant-loop decreases-loop
-returns c = let a = c.before.before.args in found-last a.sync a.words.now a.from.0 (omega arith)
+returns : tie.Need-returns-then-words invariant-loop-at decreases-loop-at
+returns c = let a = c.args in found-last a.sync a.words.now a.from.0 (omega arith)
 
-loop-again : tie.Need-loop-preserved invariant-loop decreases-loop
+loop-again : tie.Need-loop-at-preserved invariant-loop-at decreases-loop-at
 loop-again c =
-    let l = c.before.before.before in
-    let a = l.before.before.before.args in (
+    let a = c.args in (
       omega arith,
-      l.loop.invariant.1
-          ∙ found-later a.sync a.words.now l.loop.at (omega arith)
-          (confirmed-none a.sync a.words.now l.loop.at
-          (headed-by-words a.sync a.words.now l.loop.at (omega arith) ∙ rw (ne_eqb _ _ c.if3.false)))
-          ∙ ap (λ (n : ℕ). next_from a.sync a.words.now n) (sym (add-one l.loop.at)),
+      c.loop-at.invariant.1
+          ∙ found-later a.sync a.words.now c.loop-at.at (omega arith)
+          (confirmed-none a.sync a.words.now c.loop-at.at
+          (headed-by-words a.sync a.words.now c.loop-at.at (omega arith) ∙ rw (ne_eqb _ _ c.if-words-at.false)))
+          ∙ ap (λ (n : ℕ). next_from a.sync a.words.now n) (sym (add-one c.loop-at.at)),
     )
 
-returns-2 : tie.Need-returns-2 invariant-loop decreases-loop
+returns-2 : tie.Need-returns-then-places-at invariant-loop-at decreases-loop-at
 returns-2 c =
-    let l = c.before in
-    let a = l.before.before.before.args in
-    l.loop.invariant.1 ∙ found-last a.sync a.words.now l.loop.at (omega arith)
+    let a = c.args in
+    c.loop-at.invariant.1 ∙ found-last a.sync a.words.now c.loop-at.at (omega arith)
 
-returns-3 : tie.Need-returns-3 invariant-loop decreases-loop
+returns-3 : tie.Need-returns-then-words-at invariant-loop-at decreases-loop-at
 returns-3 c =
-    let l = c.before.before.before in
-    record { ahead = l.loop.invariant.0; room = omega arith; there = c.if3.true; same = l.loop.invariant.1 }
+    record { ahead = c.loop-at.invariant.0; room = omega arith; there = c.if-words-at.true; same = c.loop-at.invariant.1 }
 
-pub next-sync-spec : {M : Type 1} → statement M
-next-sync-spec =
+pub next_sync_spec : {M : Type 1} → statement M
+next_sync_spec =
     tie.close
     (tie.spec
-    invariant-loop
-    decreases-loop
+    invariant-loop-at
+    decreases-loop-at
     returns
     (λ c. search rules)
     loop-holds
