@@ -13,22 +13,21 @@ use Rattle.crc.proofs.Turns.{Left, pair_turn, more, begun}
 use Rattle.crc.proofs.bytes.Statement.{statement}
 use Rattle.crc.proofs.bytes.Tie as tie
 
-abbrev invariant-loop : tie.invariant-loop
-invariant-loop start message n head odd r first h₀ i₀ h i =
+abbrev invariant-loop-i : tie.invariant-loop-i
+invariant-loop-i start message n head odd r first h₀ i₀ h i =
     (i ≤ length message) × (i % 8 ≡ length message % 8) × (crc_bytes (register_of h) (drop i message) ≡ crc_bytes start message)
 
-abbrev decreases-loop : tie.decreases-loop
-decreases-loop start message n head odd r first h₀ i₀ h i = length message - i
+abbrev decreases-loop-i : tie.decreases-loop-i
+decreases-loop-i start message n head odd r first h₀ i₀ h i = length message - i
 
-returns : tie.Need-returns invariant-loop decreases-loop
+returns : tie.Need-returns-then-n-lt8 invariant-loop-i decreases-loop-i
 returns c =
-    let m = c.before.before.before.args.message.now in
-    folded-all (crc_step 8) _ m (length m) (le_refl (length m)) c.first-bytes.ensures
+    let m = c.args.message.now in
+    folded-all (crc_step 8) _ m (length m) (le_refl (length m)) c.first_bytes.ensures
 
-loop-holds : tie.Need-loop-init invariant-loop decreases-loop
+loop-holds : tie.Need-loop-i-init invariant-loop-i decreases-loop-i
 loop-holds c =
-    let known = c.before.before.before.before.before in
-    let a = known.before.args in
+    let a = c.args in
     let m = a.message.now in
     let head = length m % 8 in
     let k : head / 2 < 4 = omega arith in
@@ -37,37 +36,34 @@ loop-holds c =
       within,
       omega arith,
       begun (Left 8 (crc_bytes a.start m) m) (pair_at m) 2 (length m) (pair_turn _ m (λ k. (known.shared-slice-known.given k).fits)) _ k _ _ _ _ _ place within
-          c.before.before.bytes-at.ensures c.before.bytes-at2.ensures c.begin.ensures c.before.before.before.first-bytes2.ensures,
+          c.bytes_at-first.ensures c.bytes_at.ensures c.begin-h.ensures c.first_bytes-r.ensures,
     )
 
-loop-again : tie.Need-loop-preserved invariant-loop decreases-loop
+loop-again : tie.Need-loop-i-preserved invariant-loop-i decreases-loop-i
 unfolding after_high
 loop-again c =
-    let l = c.before.before.before in
-    let known = l.before.before.before.before.before.before in
-    let a = known.before.args in
+    let a = c.args in
     let m = a.message.now in
     let i = l.loop.i in
     let within : i + 8 ≤ length m = omega arith in (
       within,
       omega arith,
       more (Left 8 (crc_bytes a.start m) m) (pair_at m) 2 (length m) (pair_turn _ m (λ k. (known.shared-slice-known.given k).fits)) i _ _ within
-          c.before.bytes-at3.ensures c.join.ensures l.loop.invariant.2,
+          c.bytes_at-in-loop-i.ensures c.join-h.ensures l.loop.invariant.2,
     )
 
-returns-2 : tie.Need-returns-2 invariant-loop decreases-loop
+returns-2 : tie.Need-returns invariant-loop-i decreases-loop-i
 returns-2 c =
-    let l = c.before.before in
-    let m = l.before.before.before.before.before.before.before.args.message.now in
-    let end : length m ≤ l.loop.i = omega arith in
-    c.register.ensures ∙ folded-all (crc_step 8) _ m _ end l.loop.invariant.2
+    let m = c.args.message.now in
+    let end : length m ≤ c.loop-i.i = omega arith in
+    c.register.ensures ∙ folded-all (crc_step 8) _ m _ end c.loop-i.invariant.2
 
-pub bytes-spec : {M : Type 1} → statement M
-bytes-spec =
+pub bytes_spec : {M : Type 1} → statement M
+bytes_spec =
     tie.close
     (tie.spec
-    invariant-loop
-    decreases-loop
+    invariant-loop-i
+    decreases-loop-i
     (λ c κs. search rules)
     returns
     (λ c κs. search rules)

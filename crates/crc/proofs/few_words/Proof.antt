@@ -9,30 +9,29 @@ use Rattle.crc_division.proofs.Linear.{word-step}
 use Rattle.crc.proofs.few_words.Statement.{statement}
 use Rattle.crc.proofs.few_words.Tie as tie
 
-abbrev invariant-loop : tie.invariant-loop
-invariant-loop start message r₀ i₀ r i = crc_words r (drop i message) ≡ crc_words start message
+abbrev invariant-loop-i : tie.invariant-loop-i
+invariant-loop-i start message r₀ i₀ r i = crc_words r (drop i message) ≡ crc_words start message
 
-abbrev decreases-loop : tie.decreases-loop
-decreases-loop start message r₀ i₀ r i = length message - i
+abbrev decreases-loop-i : tie.decreases-loop-i
+decreases-loop-i start message r₀ i₀ r i = length message - i
 
-loop-holds : tie.Need-loop-init invariant-loop decreases-loop
+loop-holds : tie.Need-loop-i-init invariant-loop-i decreases-loop-i
 loop-holds c = refl
 
-loop-again : tie.Need-loop-preserved invariant-loop decreases-loop
+loop-again : tie.Need-loop-i-preserved invariant-loop-i decreases-loop-i
 loop-again c =
-    let l = c.before.before.before in
-    folded-one (crc_step 16) _ l.before.before.args.message.now _ _ c.before.before.loop-test.true
-    (c.sixteen.ensures ∙ sym (word-step _ _)) l.loop.invariant
+    folded-one (crc_step 16) _ c.args.message.now _ _ c.loop-i-test.true
+    (c.sixteen-r.ensures ∙ sym (word-step _ _)) c.loop-i.invariant
 
-returns : tie.Need-returns invariant-loop decreases-loop
-returns c = folded-all (crc_step 16) _ c.before.before.before.args.message.now _ c.loop-test.false c.before.loop.invariant
+returns : tie.Need-returns invariant-loop-i decreases-loop-i
+returns c = folded-all (crc_step 16) _ c.args.message.now _ c.loop-i-test.false c.loop-i.invariant
 
-pub few-words-spec : {M : Type 1} → statement M
-few-words-spec =
+pub few_words_spec : {M : Type 1} → statement M
+few_words_spec =
     tie.close
     (tie.spec
-    invariant-loop
-    decreases-loop
+    invariant-loop-i
+    decreases-loop-i
     loop-holds
     (λ c. search rules)
     (λ c. search rules)

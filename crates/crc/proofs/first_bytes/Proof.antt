@@ -10,43 +10,41 @@ use Rattle.crc.specs.Crc.{crc_bits, crc_step, crc_bytes}
 use Rattle.crc.proofs.first_bytes.Statement.{statement}
 use Rattle.crc.proofs.first_bytes.Tie as tie
 
-abbrev invariant-loop : tie.invariant-loop
-invariant-loop start message n r₀ i₀ r i = (i ≤ n) × (crc_bytes r (drop i message) ≡ crc_bytes start message)
+abbrev invariant-loop-i : tie.invariant-loop-i
+invariant-loop-i start message n r₀ i₀ r i = (i ≤ n) × (crc_bytes r (drop i message) ≡ crc_bytes start message)
 
-abbrev decreases-loop : tie.decreases-loop
-decreases-loop start message n r₀ i₀ r i = n - i
+abbrev decreases-loop-i : tie.decreases-loop-i
+decreases-loop-i start message n r₀ i₀ r i = n - i
 
-loop-holds : tie.Need-loop-init invariant-loop decreases-loop
+loop-holds : tie.Need-loop-i-init invariant-loop-i decreases-loop-i
 loop-holds c = (omega arith, refl)
 
-cast-eight : tie.Need-overflow-cast-eight invariant-loop decreases-loop
-cast-eight c = omega (arith, c.shared-slice-known2.given c.before.before.loop.i)
+cast-eight : tie.Need-overflow_cast-message invariant-loop-i decreases-loop-i
+cast-eight c = omega (arith, c.shared_slice_known-in-loop-i-1.given c.loop-i.i)
 
-loop-again : tie.Need-loop-preserved invariant-loop decreases-loop
+loop-again : tie.Need-loop-i-preserved invariant-loop-i decreases-loop-i
 unfolding crc_step
 loop-again c =
-    let l = c.before.before.before in
-    let m = l.before.before.args.message.now in
-    let i = l.loop.i in
-    let b : get_or m i 0 * 256 % 65536 ≡ get_or m i 0 * 256 = omega (arith, c.before.shared-slice-known2.given i) in (
+    let m = c.args.message.now in
+    let i = c.loop-i.i in
+    let b : get_or m i 0 * 256 % 65536 ≡ get_or m i 0 * 256 = omega (arith, c.shared_slice_known-in-loop-i-1.given i) in (
       omega arith,
       folded-one (crc_step 8) _ m i _ (omega arith)
-          (c.eight.ensures ∙ ap (λ (n : ℕ). crc_bits 8 (l.loop.r xor n)) b) l.loop.invariant.1,
+          (c.eight-r.ensures ∙ ap (λ (n : ℕ). crc_bits 8 (c.loop-i.r xor n)) b) c.loop-i.invariant.1,
     )
 
-returns : tie.Need-returns invariant-loop decreases-loop
+returns : tie.Need-returns invariant-loop-i decreases-loop-i
 returns c =
-    let l = c.before in
-    let a = l.before.before.args in
-    let e : a.end.0 ≡ l.loop.i = omega arith in
-    ap (λ (k : ℕ). crc_bytes l.loop.r (drop k a.message.now)) e ∙ l.loop.invariant.1
+    let a = c.args in
+    let e : a.end.0 ≡ c.loop-i.i = omega arith in
+    ap (λ (k : ℕ). crc_bytes c.loop-i.r (drop k a.message.now)) e ∙ c.loop-i.invariant.1
 
-pub first-bytes-spec : {M : Type 1} → statement M
-first-bytes-spec =
+pub first_bytes_spec : {M : Type 1} → statement M
+first_bytes_spec =
     tie.close
     (tie.spec
-    invariant-loop
-    decreases-loop
+    invariant-loop-i
+    decreases-loop-i
     loop-holds
     (λ c. search rules)
     cast-eight

@@ -17,13 +17,13 @@ use Rattle.parity_rows.proofs.add.Tie as tie
 placed : (n r : ℕ) → r < 64 → bit_and n 1 * 2 ^ (63 - r) % 2 ^ 64 ≡ n % 2 * 2 ^ (63 - r)
 placed n r h = ap (λ (x : ℕ). x * 2 ^ (63 - r) % 2 ^ 64) (and_mask n 1) ∙ shl_exact 1 (63 - r) 64 (mod-lt n (lit< tt)) (omega arith)
 
-cast-odd : tie.Need-overflow-cast-odd
+cast-odd : tie.Need-overflow_cast-odd
 cast-odd c = Fits-mask (ones c.args.w) 1 tt
 
 returns : tie.Need-returns
 returns c =
-    let a = c.before.before.args in
-    ap (λ (x : ℕ). sums (a.s.rows xor x) (a.s.columns xor a.w)) (placed (ones a.w) a.r c.before.before.requires)
+    let a = c.args in
+    ap (λ (x : ℕ). sums (a.s.rows xor x) (a.s.columns xor a.w)) (placed (ones a.w) a.r c.requires)
 
 pub add_spec : {M : Type 1} → statement M
 add_spec = tie.close (tie.spec cast-odd (λ c. search rules) (λ c. search rules) returns)

@@ -7,12 +7,12 @@ use Rattle.parity_rows.proofs.bits_from.Tie as tie
 
 returns : tie.Need-returns
 returns c =
-    c.pack-row.ensures
-    ∙ packed _ _ _ _ _ _ (λ i. (c.before.before.before.before.before.shared-slice-known.given i).fits)
-    c.before.before.before.before.word-at.ensures c.before.before.before.word-at2.ensures c.before.before.word-at3.ensures c.before.word-at4.ensures
+    c.pack_row.ensures
+    ∙ packed _ _ _ _ _ _ (λ i. (c.shared_slice_known-1.given i).fits)
+    c.word_at.ensures c.word_at-2.ensures c.word_at-3.ensures c.word_at-4.ensures
 
-pub bits-from-spec : {M : Type 1} → statement M
-bits-from-spec =
+pub bits_from_spec : {M : Type 1} → statement M
+bits_from_spec =
     tie.close
     (tie.spec
     (λ c κs. search rules)

@@ -6,15 +6,15 @@ use Rattle.parity_rows.proofs.exchange.Tie as tie
 returns : tie.Need-returns
 returns c =
     cc (
-      c.pack-row.ensures,
-      c.before.low-word4.ensures,
-      c.before.before.low-word3.ensures,
-      c.before.before.before.low-word2.ensures,
-      c.before.before.before.before.low-word.ensures,
+      c.pack_row.ensures,
+      c.low_word-4.ensures,
+      c.low_word-3.ensures,
+      c.low_word-2.ensures,
+      c.low_word.ensures,
     )
 
-pub exchange-spec : {M : Type 1} → statement M
-exchange-spec =
+pub exchange_spec : {M : Type 1} → statement M
+exchange_spec =
     tie.close
     (tie.spec
     (λ c κs. search rules)

@@ -10,15 +10,14 @@ use Rattle.parity_rows.proofs.last_row.Tie as tie
 
 returns : tie.Need-returns
 returns c =
-    let k = c.before.before.before.before in
-    let d = k.before.args.«data».now in
-    c.pack-row.ensures
-    ∙ packed _ _ _ _ _ _ (λ i. (k.shared-slice-known.given i).fits)
-    c.before.before.before.word-at.ensures c.before.before.word-at2.ensures c.before.word-at3.ensures
-    (sym (get_or-eq_default d 0 {n = k.before.args.at.0 + 3} k.before.requires.1))
+    let d = c.args.«data».now in
+    c.pack_row.ensures
+    ∙ packed _ _ _ _ _ _ (λ i. (c.shared_slice_known-1.given i).fits)
+    c.word_at.ensures c.word_at-2.ensures c.word_at-3.ensures
+    (sym (get_or-eq_default d 0 {n = c.args.at.0 + 3} c.requires.1))
 
-pub last-row-spec : {M : Type 1} → statement M
-last-row-spec =
+pub last_row_spec : {M : Type 1} → statement M
+last_row_spec =
     tie.close
     (tie.spec
     (λ c κs. search rules)

@@ -25,5 +25,5 @@ unfolding pack
 returns c =
     joined c.args.a c.args.b c.args.c c.args.d c.ranges.a.fits c.ranges.b.fits c.ranges.c.fits c.ranges.d.fits
 
-pub pack-row-spec : {M : Type 1} → statement M
-pack-row-spec = tie.close (tie.spec returns)
+pub pack_row_spec : {M : Type 1} → statement M
+pack_row_spec = tie.close (tie.spec returns)

@@ -8,21 +8,20 @@ use Rattle.parity_rows.proofs.ByRows.{next-sums, enough-rows, all-rows}
 use Rattle.parity_rows.proofs.parity.Statement.{statement}
 use Rattle.parity_rows.proofs.parity.Tie as tie
 
-returns : tie.Need-returns
+returns : tie.Need-returns-then-whole-eq64
 returns c =
-    let d = c.before.before.before.before.args.«data».now in
-    c.before.whole-rows.ensures ∙ ap (sums_of d) c.if1.true ∙ all-rows d
+    let d = c.args.«data».now in
+    c.whole_rows-s.ensures ∙ ap (sums_of d) c.if-whole-eq64.true ∙ all-rows d
 
-returns-2 : tie.Need-returns-2
+returns-2 : tie.Need-returns
 returns-2 c =
-    let w = c.before.before.before.before in
-    let d = w.before.before.args.«data».now in
-    let n = w.whole_in.result in
-    next-sums d n (omega (arith, w.whole_in.ensures, c.before.before.if1.false)) c.before.before.before.whole-rows.ensures c.before.last_row.ensures c.add.ensures
-    ∙ enough-rows d (n + 1) (omega (arith, w.whole_in.ensures, c.before.before.if1.false)) (omega (arith, w.whole_in.ensures, c.before.before.if1.false)) ∙ all-rows d
+    let d = c.args.«data».now in
+    let n = c.whole_in-whole.result in
+    next-sums d n (omega (arith, c.whole_in-whole.ensures, c.if-whole-eq64.false)) c.whole_rows-s.ensures c.last_row.ensures c.add.ensures
+    ∙ enough-rows d (n + 1) (omega (arith, c.whole_in-whole.ensures, c.if-whole-eq64.false)) (omega (arith, c.whole_in-whole.ensures, c.if-whole-eq64.false)) ∙ all-rows d
 
-pub parity-spec : {M : Type 1} → statement M
-parity-spec =
+pub parity_spec : {M : Type 1} → statement M
+parity_spec =
     tie.close
     (tie.spec
     (λ c κs. search rules)

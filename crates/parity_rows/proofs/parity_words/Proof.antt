@@ -8,19 +8,19 @@ use Rattle.parity_rows.proofs.parity_words.Tie as tie
 
 returns : tie.Need-returns
 returns c =
-    words-of-sums _ c.before.before.before.before.before.before.before.before.parity.ensures
-    (ap₂ ◌∷◌ c.before.before.before.before.before.before.before.low-word.ensures
-    (ap₂ ◌∷◌ c.before.before.before.before.before.before.low-word2.ensures
-    (ap₂ ◌∷◌ c.before.before.before.before.before.low-word3.ensures
-    (ap₂ ◌∷◌ c.before.before.before.before.low-word4.ensures
-    (ap₂ ◌∷◌ c.before.before.before.low-word5.ensures
-    (ap₂ ◌∷◌ c.before.before.low-word6.ensures
-    (ap₂ ◌∷◌ c.before.low-word7.ensures
-    (ap₂ ◌∷◌ c.low-word8.ensures
+    words-of-sums _ c.parity-s.ensures
+    (ap₂ ◌∷◌ c.low_word.ensures
+    (ap₂ ◌∷◌ c.low_word-2.ensures
+    (ap₂ ◌∷◌ c.low_word-3.ensures
+    (ap₂ ◌∷◌ c.low_word-4.ensures
+    (ap₂ ◌∷◌ c.low_word-5.ensures
+    (ap₂ ◌∷◌ c.low_word-6.ensures
+    (ap₂ ◌∷◌ c.low_word-7.ensures
+    (ap₂ ◌∷◌ c.low_word-8.ensures
     refl))))))))
 
-pub parity-words-spec : {M : Type 1} → statement M
-parity-words-spec =
+pub parity_words_spec : {M : Type 1} → statement M
+parity_words_spec =
     tie.close
     (tie.spec
     (λ c κs. search rules)

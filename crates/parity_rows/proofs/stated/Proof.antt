@@ -9,19 +9,19 @@ use Rattle.parity_rows.proofs.Loads.{turned-load}
 use Rattle.parity_rows.proofs.stated.Statement.{statement}
 use Rattle.parity_rows.proofs.stated.Tie as tie
 
-returns : tie.Need-returns
-returns c = ap₂ sums c.before.bits-from.ensures c.bits-from2.ensures
+returns : tie.Need-returns-then-unit
+returns c = ap₂ sums c.bits_from.ensures c.bits_from-then-unit.ensures
 
-returns-2 : tie.Need-returns-2
+returns-2 : tie.Need-returns
 returns-2 c =
-    let u = c.before.before.before.before.before.before.before.args.unit.now in
-    let fits : (i : ℕ) → get_or u i 0 < 65536 = λ i. (c.before.before.before.before.before.before.shared-slice-known.given i).fits in
+    let u = c.args.unit.now in
+    let fits : (i : ℕ) → get_or u i 0 < 65536 = λ i. (c.shared_slice_known-1.given i).fits in
     ap₂ sums
-    (c.before.before.exchange.ensures ∙ ap exchanged c.before.before.before.load.ensures ∙ turned-load u fits 0)
-    (c.exchange2.ensures ∙ ap exchanged c.before.load2.ensures ∙ turned-load u fits 4)
+    (c.exchange.ensures ∙ ap exchanged c.load.ensures ∙ turned-load u fits 0)
+    (c.exchange-2.ensures ∙ ap exchanged c.load-2.ensures ∙ turned-load u fits 4)
 
-pub stated-spec : {M : Type 1} → statement M
-stated-spec =
+pub stated_spec : {M : Type 1} → statement M
+stated_spec =
     tie.close
     (tie.spec
     (λ c κs. search rules)

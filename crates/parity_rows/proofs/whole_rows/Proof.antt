@@ -10,40 +10,38 @@ use Rattle.parity_rows.proofs.Loads.{turned, turned_more}
 use Rattle.parity_rows.proofs.whole_rows.Statement.{statement}
 use Rattle.parity_rows.proofs.whole_rows.Tie as tie
 
-abbrev invariant-loop : tie.invariant-loop
-invariant-loop «data» count s₀ r₀ s r = (r ≤ count) × (turned s ≡ sums_of «data» r)
+abbrev invariant-loop-r : tie.invariant-loop-r
+invariant-loop-r «data» count s₀ r₀ s r = (r ≤ count) × (turned s ≡ sums_of «data» r)
 
-abbrev decreases-loop : tie.decreases-loop
-decreases-loop «data» count s₀ r₀ s r = count - r
+abbrev decreases-loop-r : tie.decreases-loop-r
+decreases-loop-r «data» count s₀ r₀ s r = count - r
 
-loop-holds : tie.Need-loop-init invariant-loop decreases-loop
+loop-holds : tie.Need-loop-r-init invariant-loop-r decreases-loop-r
 unfolding xor_all number pack
 loop-holds c = (omega arith, refl)
 
-loop-again : tie.Need-loop-preserved invariant-loop decreases-loop
+loop-again : tie.Need-loop-r-preserved invariant-loop-r decreases-loop-r
 loop-again c =
-    let l = c.before.before.before in
-    let a = l.before.before.args in
+    let a = c.args in
     let d = a.«data».now in
     let at : l.loop.r < 64 = omega arith in (
       omega arith,
-      ap turned c.add.ensures ∙ turned_more d (λ i. (l.before.shared-slice-known.given i).fits) l.loop.s l.loop.r c.before.load.ensures
+      ap turned c.add-s.ensures ∙ turned_more d (λ i. (l.before.shared-slice-known.given i).fits) l.loop.s l.loop.r c.load.ensures
           ∙ next-sums d l.loop.r at l.loop.invariant.1 refl refl,
     )
 
-returns : tie.Need-returns invariant-loop decreases-loop
+returns : tie.Need-returns invariant-loop-r decreases-loop-r
 returns c =
-    let l = c.before.before in
-    let d = l.before.before.args.«data».now in
-    let all : l.loop.r ≡ l.before.before.args.count = omega arith in
-    ap (sums l.loop.s.rows) c.exchange.ensures ∙ l.loop.invariant.1 ∙ ap (sums_of d) all
+    let d = c.args.«data».now in
+    let all : c.loop-r.r ≡ c.args.count = omega arith in
+    ap (sums c.loop-r.s.rows) c.exchange.ensures ∙ c.loop-r.invariant.1 ∙ ap (sums_of d) all
 
-pub whole-rows-spec : {M : Type 1} → statement M
-whole-rows-spec =
+pub whole_rows_spec : {M : Type 1} → statement M
+whole_rows_spec =
     tie.close
     (tie.spec
-    invariant-loop
-    decreases-loop
+    invariant-loop-r
+    decreases-loop-r
     loop-holds
     (λ c. search rules)
     (λ c κs. search rules)

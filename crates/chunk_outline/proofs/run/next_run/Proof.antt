@@ -13,63 +13,54 @@ use Rattle.chunk_outline.proofs.run.Going.{Going, going-first, run-last, run-par
 use Rattle.chunk_outline.proofs.run.next_run.Statement.{statement}
 use Rattle.chunk_outline.proofs.run.next_run.Tie as tie
 
-abbrev invariant-loop : tie.invariant-loop
-invariant-loop words sync own from end₀ end = Going sync words own from end
+abbrev invariant-loop-entry : tie.invariant-loop-entry
+invariant-loop-entry words sync own from end₀ end = Going sync words own from end
 
-abbrev decreases-loop : tie.decreases-loop
-decreases-loop words sync own from end₀ end = length words - end
+abbrev decreases-loop-entry : tie.decreases-loop-entry
+decreases-loop-entry words sync own from end₀ end = length words - end
 
 -- the chunk that was found
-step : (c : tie.After-known-told invariant-loop decreases-loop)
-    → (let l = c.before.before.before.before in
-    Next l.before.before.args.sync l.before.before.args.words.now l.loop.end c.before.found.given.0.0 c.before.found.given.0.1.0.0)
+step : (c : tie.In-Chunk invariant-loop-entry decreases-loop-entry)
+    → (Next c.args.sync c.args.words.now c.loop-entry.end c.in-Chunk.entry c.in-Chunk.next.0)
 step c =
-    let l = c.before.before.before.before in
-    stepped l.before.before.args.sync l.before.before.args.words.now l.loop.end c.before.found.given.0.0 c.before.found.given.0.1.0
-    (sym c.before.before.before.next.ensures ∙ c.before.found.given.1)
+    stepped c.args.sync c.args.words.now c.loop-entry.end c.in-Chunk.entry c.in-Chunk.next
+    (sym c.next-found.ensures ∙ c.in-Chunk.is)
 
 -- whether it joins the run, by its kind
-test : (c : tie.After-kind-of invariant-loop decreases-loop) (b : Bool)
-    → (let k = c.before in
-    let l = k.before.before.before.before in
-    let e = k.before.found.given.0.0 in
-    let own = l.before.before.args.kind in
-    eqb e.position.0 l.loop.end && eqb c.kind-of.result own ≡ b → eqb e.position.0 l.loop.end && eqb (kind e.header) own ≡ b)
-test c b t = rw c.kind-of.ensures at t
+test : (c : tie.After-kind_of invariant-loop-entry decreases-loop-entry) (b : Bool)
+    → (let e = c.in-Chunk.entry in
+    let own = c.args.kind in
+    eqb e.position.0 c.loop-entry.end && eqb c.kind_of.result own ≡ b → eqb e.position.0 c.loop-entry.end && eqb (kind e.header) own ≡ b)
+test c b t = rw c.kind_of.ensures at t
 
-loop-holds : tie.Need-loop-init invariant-loop decreases-loop
+loop-holds : tie.Need-loop-entry-init invariant-loop-entry decreases-loop-entry
 loop-holds c = going-first _ _ _ _
 
-returns : tie.Need-returns invariant-loop decreases-loop
+returns : tie.Need-returns-in_default invariant-loop-entry decreases-loop-entry
 returns c =
-    let l = c.before.before.before in
-    let a = l.before.before.args in
-    run-last a.sync a.words.now a.kind a.from l.loop.end l.loop.invariant
-    (ended a.sync a.words.now _ (sym c.before.before.next.ensures ∙ c.enum_told.given.1))
+    let a = c.args in
+    run-last a.sync a.words.now a.kind a.from c.loop-entry.end c.loop-entry.invariant
+    (ended a.sync a.words.now _ (sym c.next-found.ensures ∙ c.in_default.is))
 
-returns-2 : tie.Need-returns-2 invariant-loop decreases-loop
+returns-2 : tie.Need-returns-then-not-joins invariant-loop-entry decreases-loop-entry
 returns-2 c =
-    let k = c.before.before in
-    let l = k.before.before.before.before in
-    let a = l.before.before.args in
-    run-parted a.sync a.words.now a.kind a.from l.loop.end l.loop.invariant _ _ (step k) (test c.before _ (not-true _ c.if1.true))
+    let a = c.args in
+    run-parted a.sync a.words.now a.kind a.from c.loop-entry.end c.loop-entry.invariant _ _ (step c.before.before) (test c.before _ c.if-not-joins.true)
 
-loop-less : tie.Need-loop-smaller invariant-loop decreases-loop
-loop-less c = let k = c.before.before in omega (arith, (step k).ahead, (step k).within, (step k).end)
+loop-less : tie.Need-loop-entry-smaller invariant-loop-entry decreases-loop-entry
+loop-less c = omega (arith, (step c.before.before).ahead, (step c.before.before).within, (step c.before.before).end)
 
-loop-again : tie.Need-loop-preserved invariant-loop decreases-loop
+loop-again : tie.Need-loop-entry-preserved invariant-loop-entry decreases-loop-entry
 loop-again c =
-    let k = c.before.before in
-    let l = k.before.before.before.before in
-    let a = l.before.before.args in
-    run-joined a.sync a.words.now a.kind a.from l.loop.end l.loop.invariant _ _ (step k) (test c.before _ (not-false _ c.if1.false))
+    let a = c.args in
+    run-joined a.sync a.words.now a.kind a.from c.loop-entry.end c.loop-entry.invariant _ _ (step c.before.before) (test c.before _ c.if-not-joins.false)
 
-pub next-run-spec : {M : Type 1} → statement M
-next-run-spec =
+pub next_run_spec : {M : Type 1} → statement M
+next_run_spec =
     tie.close
     (tie.spec
-    invariant-loop
-    decreases-loop
+    invariant-loop-entry
+    decreases-loop-entry
     loop-holds
     (λ c κs. search rules)
     (λ c. search rules)

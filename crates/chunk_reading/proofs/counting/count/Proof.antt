@@ -11,62 +11,57 @@ use Rattle.chunk_reading.proofs.counting.Counted.{Counted, none-counted, chunk-c
 use Rattle.chunk_reading.proofs.counting.count.Statement.{statement}
 use Rattle.chunk_reading.proofs.counting.count.Tie as tie
 
-abbrev invariant-loop : tie.invariant-loop
-invariant-loop words sync chunks₀ listed₀ end₀ at₀ chunks listed end at = Counted sync words chunks listed end at
+abbrev invariant-loop-entry : tie.invariant-loop-entry
+invariant-loop-entry words sync chunks₀ listed₀ end₀ at₀ chunks listed end at = Counted sync words chunks listed end at
 
-abbrev decreases-loop : tie.decreases-loop
-decreases-loop words sync chunks₀ listed₀ end₀ at₀ chunks listed end at = length words - at
+abbrev decreases-loop-entry : tie.decreases-loop-entry
+decreases-loop-entry words sync chunks₀ listed₀ end₀ at₀ chunks listed end at = length words - at
 
 -- the chunk that was found
-step : (c : tie.After-known-told invariant-loop decreases-loop)
-    → (let l = c.before.before.before.before in
-    Next l.before.before.args.sync l.before.before.args.words.now l.loop.at c.before.found.given.0.0 c.before.found.given.0.1.0.0)
+step : (c : tie.In-Chunk invariant-loop-entry decreases-loop-entry)
+    → (Next c.args.sync c.args.words.now c.loop-entry.at c.in-Chunk.entry c.in-Chunk.next.0)
 step c =
-    let l = c.before.before.before.before in
-    stepped l.before.before.args.sync l.before.before.args.words.now l.loop.at c.before.found.given.0.0 c.before.found.given.0.1.0
-    (sym c.before.before.before.next.ensures ∙ c.before.found.given.1)
+    stepped c.args.sync c.args.words.now c.loop-entry.at c.in-Chunk.entry c.in-Chunk.next
+    (sym c.next-found.ensures ∙ c.in-Chunk.is)
 
 -- that there was none
-last : (c : tie.After-enum-told invariant-loop decreases-loop)
-    → (let l = c.before.before.before in
-    Last l.before.before.args.sync l.before.before.args.words.now l.loop.at)
+last : (c : tie.In_default invariant-loop-entry decreases-loop-entry)
+    → (Last c.args.sync c.args.words.now c.loop-entry.at)
 last c =
-    let l = c.before.before.before in
-    ended l.before.before.args.sync l.before.before.args.words.now l.loop.at
-    (sym c.before.before.next.ensures ∙ c.enum_told.given.1)
+    ended c.args.sync c.args.words.now c.loop-entry.at
+    (sym c.next-found.ensures ∙ c.in_default.is)
 
-loop-holds : tie.Need-loop-init invariant-loop decreases-loop
-loop-holds c = none-counted c.before.args.sync c.before.args.words.now
+loop-holds : tie.Need-loop-entry-init invariant-loop-entry decreases-loop-entry
+loop-holds c = none-counted c.args.sync c.args.words.now
 
-returns : tie.Need-returns invariant-loop decreases-loop
+returns : tie.Need-returns-in_default invariant-loop-entry decreases-loop-entry
 returns c =
-    let l = c.before.before.before in
-    let a = l.before.before.args in
-    ap₂ (λ (n m : ℕ). counts n m l.loop.end) (all-chunks a.sync a.words.now _ _ _ _ l.loop.invariant (last c))
-    (all-skipped a.sync a.words.now _ _ _ _ l.loop.invariant (last c))
-    ∙ ap (counts (length (reading a.sync a.words.now)) (skipped a.sync a.words.now)) (any-end _ _ _ _ _ _ l.loop.invariant (last c))
+    let a = c.args in
+    ap₂ (λ (n m : ℕ). counts n m c.loop-entry.end) (all-chunks a.sync a.words.now _ _ _ _ c.loop-entry.invariant (last c))
+    (all-skipped a.sync a.words.now _ _ _ _ c.loop-entry.invariant (last c))
+    ∙ ap (counts (length (reading a.sync a.words.now)) (skipped a.sync a.words.now)) (any-end _ _ _ _ _ _ c.loop-entry.invariant (last c))
 
-add-chunks : tie.Need-overflow-add-chunks invariant-loop decreases-loop
+add-chunks : tie.Need-overflow_add-chunks invariant-loop-entry decreases-loop-entry
 add-chunks c = record { fits = omega (arith, (step c).ahead, (step c).within, (step c).end) }
 
-sub-listed : tie.Need-overflow-sub-listed invariant-loop decreases-loop
+sub-listed : tie.Need-overflow_sub-listed invariant-loop-entry decreases-loop-entry
 sub-listed c = omega (arith, (step c.before).end)
 
-add-listed : tie.Need-overflow-add-listed invariant-loop decreases-loop
+add-listed : tie.Need-overflow_add-listed invariant-loop-entry decreases-loop-entry
 add-listed c = let s = step c.before in record { fits = omega (arith, s.ahead, s.within, s.end) }
 
-loop-less : tie.Need-loop-smaller invariant-loop decreases-loop
+loop-less : tie.Need-loop-entry-smaller invariant-loop-entry decreases-loop-entry
 loop-less c = let s = step c.before.before in omega (arith, s.ahead, s.within, s.end)
 
-loop-again : tie.Need-loop-preserved invariant-loop decreases-loop
-loop-again c = chunk-counted _ _ _ _ _ _ c.before.before.before.before.before.before.loop.invariant _ _ (step c.before.before)
+loop-again : tie.Need-loop-entry-preserved invariant-loop-entry decreases-loop-entry
+loop-again c = chunk-counted _ _ _ _ _ _ c.loop-entry.invariant _ _ (step c.before.before)
 
 pub count_spec : {M : Type 1} → statement M
 count_spec =
     tie.close
     (tie.spec
-    invariant-loop
-    decreases-loop
+    invariant-loop-entry
+    decreases-loop-entry
     loop-holds
     (λ c κs. search rules)
     (λ c. search rules)

@@ -7,15 +7,14 @@ use Rattle.chunk_reading.specs.Counting.{surveyed}
 use Rattle.chunk_reading.proofs.counting.survey.Statement.{statement}
 use Rattle.chunk_reading.proofs.counting.survey.Tie as tie
 
-returns : tie.Need-returns
+returns : tie.Need-returns-then-too_long
 unfolding answer
-returns c = simp (sym c.before.before.too_long.ensures ∙ c.before.if1.true) c.refused.ensures
+returns c = simp (sym c.too_long.ensures ∙ c.if-too_long.true) c.refused.ensures
 
-returns-2 : tie.Need-returns-2
+returns-2 : tie.Need-returns
 unfolding answer
 returns-2 c =
-    let e = c.before.before in
-    simp (sym e.before.too_long.ensures ∙ e.if1.false) (ap (λ (n : Counts). surveyed 0 n.chunks n.skipped.0 n.end) c.before.count.ensures)
+    simp (sym c.too_long.ensures ∙ c.if-too_long.false) (ap (λ (n : Counts). surveyed 0 n.chunks n.skipped.0 n.end) c.count-counts.ensures)
 
-pub survey-spec : {M : Type 1} → statement M
-survey-spec = tie.close (tie.spec (λ c κs. search rules) (λ c κs. search rules) returns (λ c κs. search rules) returns-2)
+pub survey_spec : {M : Type 1} → statement M
+survey_spec = tie.close (tie.spec (λ c κs. search rules) (λ c κs. search rules) returns (λ c κs. search rules) returns-2)

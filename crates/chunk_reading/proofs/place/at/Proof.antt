@@ -11,47 +11,44 @@ use Rattle.chunk_reading.proofs.place.at.Statement.{statement}
 use Rattle.chunk_reading.proofs.place.at.Tie as tie
 
 -- the chunk lies within the recording
-inside : (c : tie.Else1)
-    → (let a = c.before.before.before.args in
+inside : (c : tie.Else-verdict-ne0)
+    → (let a = c.args in
     a.place.0 + 2 + size (get_or a.recording.now (a.place.0 + 1) 0) ≤ length a.recording.now)
 inside c =
-    let a = c.before.before.before.args in
-    accepted-within a.sync a.recording.now a.place.0 (sym c.before.judge.ensures ∙ c.if1.false)
+    let a = c.args in
+    accepted-within a.sync a.recording.now a.place.0 (sym c.judge-verdict.ensures ∙ c.if-verdict-ne0.false)
 
-returns : tie.Need-returns
+returns : tie.Need-returns-then-verdict-ne0
 returns c =
-    let t = c.before in
-    let a = t.before.before.before.args in
+    let a = c.args in
     c.refused.ensures
-    ∙ ap refused t.before.judge.ensures
-    ∙ refused-at a.sync a.recording.now a.place.0 (λ z. t.if1.true (t.before.judge.ensures ∙ z))
+    ∙ ap refused c.judge-verdict.ensures
+    ∙ refused-at a.sync a.recording.now a.place.0 (λ z. c.if-verdict-ne0.true (c.judge-verdict.ensures ∙ z))
 
-add-word : tie.Need-overflow-add-word
+add-word : tie.Need-overflow_add-word
 add-word c = record { fits = omega (arith, inside c) }
 
-mul-word : tie.Need-overflow-mul-word
+mul-word : tie.Need-offset_bounds-recording-begins
 mul-word c = record { fits = omega (arith, inside c) }
 
-shared-slice-read-word : tie.Need-shared-slice-read-word
+shared-slice-read-word : tie.Need-bounds-recording-begins
 shared-slice-read-word c = omega (arith, inside c.before)
 
-add-past : tie.Need-overflow-add-past
+add-past : tie.Need-overflow_add-past
 add-past c = record { fits = omega (arith, inside c.before.before) }
 
-add-past-2 : tie.Need-overflow-add-past-2
-add-past-2 c = record { fits = omega (arith, inside c.before.before.before.before, c.before.size-of.ensures) }
+add-past-2 : tie.Need-overflow_add-past-2
+add-past-2 c = record { fits = omega (arith, inside c.before.before.before.before, c.size_of.ensures) }
 
-returns-2 : tie.Need-returns-2
+returns-2 : tie.Need-returns
 returns-2 c =
-    let n = c.before.before in
-    let e = n.before.before.before in
-    let a = e.before.before.before.args in
-    c.heading-of.ensures
-    ∙ accepted-at a.sync a.recording.now a.place.0 (sym e.before.judge.ensures ∙ e.if1.false)
-    (a.place.0 + 2 + n.size-of.result.0) (ap (λ (m : ℕ). a.place.0 + 2 + m) n.size-of.ensures)
+    let a = c.args in
+    c.heading_of.ensures
+    ∙ accepted-at a.sync a.recording.now a.place.0 (sym c.judge-verdict.ensures ∙ c.if-verdict-ne0.false)
+    (a.place.0 + 2 + c.size_of.result.0) (ap (λ (m : ℕ). a.place.0 + 2 + m) c.size_of.ensures)
 
-pub at-spec : {M : Type 1} → statement M
-at-spec =
+pub at_spec : {M : Type 1} → statement M
+at_spec =
     tie.close
     (tie.spec
     (λ c κs. search rules)

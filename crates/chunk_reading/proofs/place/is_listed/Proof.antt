@@ -10,61 +10,53 @@ use Rattle.chunk_reading.proofs.place.Listed.{listed-up-to, listed-inside, left-
 use Rattle.chunk_reading.proofs.place.is_listed.Statement.{statement}
 use Rattle.chunk_reading.proofs.place.is_listed.Tie as tie
 
-abbrev invariant-loop : tie.invariant-loop
-invariant-loop words sync asked at₀ at = (left_at sync 0 words at ≡ 0) × (at ≤ asked)
+abbrev invariant-loop-entry : tie.invariant-loop-entry
+invariant-loop-entry words sync asked at₀ at = (left_at sync 0 words at ≡ 0) × (at ≤ asked)
 
-abbrev decreases-loop : tie.decreases-loop
-decreases-loop words sync asked at₀ at = length words - at
+abbrev decreases-loop-entry : tie.decreases-loop-entry
+decreases-loop-entry words sync asked at₀ at = length words - at
 
-loop-holds : tie.Need-loop-init invariant-loop decreases-loop
+loop-holds : tie.Need-loop-entry-init invariant-loop-entry decreases-loop-entry
 unfolding left_at
 loop-holds c = (refl, omega arith)
 
 -- the chunk that was found
-step : (c : tie.After-known-told invariant-loop decreases-loop)
-    → (let l = c.before.before.before.before in
-    Next l.before.before.args.sync l.before.before.args.words.now l.loop.at c.before.found.given.0.0 c.before.found.given.0.1.0.0)
+step : (c : tie.In-Chunk invariant-loop-entry decreases-loop-entry)
+    → (Next c.args.sync c.args.words.now c.loop-entry.at c.in-Chunk.entry c.in-Chunk.next.0)
 step c =
-    let l = c.before.before.before.before in
-    stepped l.before.before.args.sync l.before.before.args.words.now l.loop.at c.before.found.given.0.0 c.before.found.given.0.1.0
-    (sym c.before.before.before.next.ensures ∙ c.before.found.given.1)
+    stepped c.args.sync c.args.words.now c.loop-entry.at c.in-Chunk.entry c.in-Chunk.next
+    (sym c.next-found.ensures ∙ c.in-Chunk.is)
 
-returns : tie.Need-returns invariant-loop decreases-loop
+returns : tie.Need-returns-in_default invariant-loop-entry decreases-loop-entry
 returns c =
-    let l = c.before.before.before in
-    let a = l.before.before.args in
+    let a = c.args in
     sym (listed-at-no a.sync a.place.0 a.words.now
-    ((ended a.sync a.words.now l.loop.at (sym c.before.before.next.ensures ∙ c.enum_told.given.1)).noise a.place.0 l.loop.invariant.1))
+    ((ended a.sync a.words.now c.loop-entry.at (sym c.next-found.ensures ∙ c.in_default.is)).noise a.place.0 c.loop-entry.invariant.1))
 
-returns-2 : tie.Need-returns-2 invariant-loop decreases-loop
+returns-2 : tie.Need-returns-then-asked-begins invariant-loop-entry decreases-loop-entry
 returns-2 c =
-    let l = c.before.before.before.before.before in
-    let a = l.before.before.args in
-    listed-up-to a.sync a.words.now l.loop.at _ _ (step c.before) a.place.0 l.loop.invariant.0 l.loop.invariant.1 (omega arith)
+    let a = c.args in
+    listed-up-to a.sync a.words.now c.loop-entry.at _ _ (step c.before) a.place.0 c.loop-entry.invariant.0 c.loop-entry.invariant.1 (omega arith)
 
-returns-3 : tie.Need-returns-3 invariant-loop decreases-loop
+returns-3 : tie.Need-returns-then-asked-at invariant-loop-entry decreases-loop-entry
 returns-3 c =
-    let k = c.before.before in
-    let l = k.before.before.before.before in
-    let a = l.before.before.args in
-    sym (listed-inside a.sync a.words.now l.loop.at _ _ (step k) a.place.0 l.loop.invariant.0 c.before.if1.false c.if2.true)
+    let a = c.args in
+    sym (listed-inside a.sync a.words.now c.loop-entry.at _ _ (step c.before.before) a.place.0 c.loop-entry.invariant.0 c.if-asked-begins.false c.if-asked-at.true)
 
-loop-less : tie.Need-loop-smaller invariant-loop decreases-loop
-loop-less c = let k = c.before.before in omega (arith, (step k).ahead, (step k).within, (step k).end)
+loop-less : tie.Need-loop-entry-smaller invariant-loop-entry decreases-loop-entry
+loop-less c = omega (arith, (step c.before.before).ahead, (step c.before.before).within, (step c.before.before).end)
 
-loop-again : tie.Need-loop-preserved invariant-loop decreases-loop
+loop-again : tie.Need-loop-entry-preserved invariant-loop-entry decreases-loop-entry
 loop-again c =
-    let k = c.before.before in
-    let l = k.before.before.before.before in
-    let a = l.before.before.args in
-    (left-past a.sync a.words.now l.loop.at _ _ (step k) l.loop.invariant.0, c.if2.false)
+    let a = c.args in
+    (left-past a.sync a.words.now c.loop-entry.at _ _ (step c.before.before) c.loop-entry.invariant.0, c.if-asked-at.false)
 
-pub is-listed-spec : {M : Type 1} → statement M
-is-listed-spec =
+pub is_listed_spec : {M : Type 1} → statement M
+is_listed_spec =
     tie.close
     (tie.spec
-    invariant-loop
-    decreases-loop
+    invariant-loop-entry
+    decreases-loop-entry
     loop-holds
     (λ c κs. search rules)
     (λ c. search rules)

@@ -8,9 +8,8 @@ use Rattle.crc.proofs.held.begin.Tie as tie
 returns : tie.Need-returns
 unfolding register_of
 returns c =
-    let s = c.before in
-    let a = s.args in
-    beginning.begin a.r a.first a.next s.ranges.r.fits s.ranges.first.fits a.count.0 s.requires
+    let a = c.args in
+    beginning.begin a.r a.first a.next c.ranges.r.fits c.ranges.first.fits a.count.0 c.requires
 
-pub begin-spec : {M : Type 1} → statement M
-begin-spec = tie.close (tie.spec (λ c. search rules) (λ c. search rules) (λ c. search rules) (λ c. search rules) returns)
+pub begin_spec : {M : Type 1} → statement M
+begin_spec = tie.close (tie.spec (λ c. search rules) (λ c. search rules) (λ c. search rules) (λ c. search rules) returns)

@@ -6,8 +6,8 @@ use Rattle.crc.proofs.held.bytes_at.Tie as tie
 returns : tie.Need-returns
 returns c = cc
 
-pub bytes-at-spec : {M : Type 1} → statement M
-bytes-at-spec =
+pub bytes_at_spec : {M : Type 1} → statement M
+bytes_at_spec =
     tie.close
     (tie.spec
     (λ c κs. search rules)

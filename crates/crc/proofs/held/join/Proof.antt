@@ -8,8 +8,8 @@ use Rattle.crc.proofs.held.join.Tie as tie
 returns : tie.Need-returns
 unfolding register_of
 returns c =
-    let a = c.before.before.before.args in
+    let a = c.args in
     joining.join a.h.first a.h.second a.block (omega arith)
 
-pub join-spec : {M : Type 1} → statement M
-join-spec = tie.close (tie.spec returns)
+pub join_spec : {M : Type 1} → statement M
+join_spec = tie.close (tie.spec returns)

@@ -46,5 +46,5 @@ returns c =
     ∙ put 48 (b * 2 ^ 32 + (w * 2 ^ 16 + d)) a (lit≤ tt) (omega arith) c.ranges.a.fits)
     ∙ digits a b w d c.ranges.a.fits hb hw hd
 
-pub pack-spec : {M : Type 1} → statement M
-pack-spec = tie.close (tie.spec returns)
+pub pack_spec : {M : Type 1} → statement M
+pack_spec = tie.close (tie.spec returns)

@@ -13,8 +13,8 @@ use Rattle.crc.proofs.held.register.Tie as tie
 returns : tie.Need-returns
 unfolding register_of after_block after_high
 returns c =
-    let h = c.before.before.before.before.before.before.args.h in
-    c.sixty-four.ensures ∙ ap (crc_words 0) c.before.turned.ensures.0 ∙ joining.fold h.first h.second (omega arith)
+    let h = c.args.h in
+    c.sixty_four.ensures ∙ ap (crc_words 0) c.turned.ensures.0 ∙ joining.fold h.first h.second (omega arith)
 
-pub register-spec : {M : Type 1} → statement M
-register-spec = tie.close (tie.spec (λ c κs. search rules) (λ c κs. search rules) returns)
+pub register_spec : {M : Type 1} → statement M
+register_spec = tie.close (tie.spec (λ c κs. search rules) (λ c κs. search rules) returns)

@@ -6,8 +6,8 @@ use Rattle.crc.proofs.held.turned.Tie as tie
 returns : tie.Need-returns
 returns c = (cc, cc)
 
-pub turned-spec : {M : Type 1} → statement M
-turned-spec =
+pub turned_spec : {M : Type 1} → statement M
+turned_spec =
     tie.close
     (tie.spec
     (λ c κs. search rules)

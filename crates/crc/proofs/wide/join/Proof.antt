@@ -8,8 +8,8 @@ use Rattle.crc.proofs.wide.join.Tie as tie
 returns : tie.Need-returns
 unfolding register_of_wide
 returns c =
-    let a = c.before.before.before.before.before.before.args in
+    let a = c.args in
     join-wide a.w.first a.w.second a.w.third a.w.fourth a.block (omega arith)
 
-pub join-spec : {M : Type 1} → statement M
-join-spec = tie.close (tie.spec returns)
+pub join_spec : {M : Type 1} → statement M
+join_spec = tie.close (tie.spec returns)

@@ -9,17 +9,14 @@ use Rattle.crc.proofs.wide.narrow.Tie as tie
 returns : tie.Need-returns
 unfolding register_of register_of_wide
 returns c =
-    let third = c.before.before.before in
-    let second = third.before in
-    let first = second.before in
-    c.join2.ensures
+    c.join-2.ensures
     ∙ turned_round _ _
-    (c.before.before.join.ensures
-    ∙ turned_round _ _ (turned_round _ _ (turned_round _ _ refl first.turned.ensures.1) second.turned2.ensures.1) third.turned3.ensures.1)
-    c.before.turned4.ensures.1
+    (c.join.ensures
+    ∙ turned_round _ _ (turned_round _ _ (turned_round _ _ refl c.turned.ensures.1) c.turned-2.ensures.1) c.turned-3.ensures.1)
+    c.turned-4.ensures.1
 
-pub narrow-spec : {M : Type 1} → statement M
-narrow-spec =
+pub narrow_spec : {M : Type 1} → statement M
+narrow_spec =
     tie.close
     (tie.spec
     (λ c κs. search rules)

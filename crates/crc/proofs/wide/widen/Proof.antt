@@ -14,7 +14,7 @@ returns : tie.Need-returns
 unfolding register_of register_of_wide
 returns c =
     let still = nothing after_block after-block-linear in
-    sym (turned_round _ _ (turned_round _ _ (sym (ap (λ (r : ℕ). after_block r 0) still ∙ still)) (sym c.before.turned.ensures.0)) (sym c.turned2.ensures.0))
+    sym (turned_round _ _ (turned_round _ _ (sym (ap (λ (r : ℕ). after_block r 0) still ∙ still)) (sym c.turned.ensures.0)) (sym c.turned-2.ensures.0))
 
 pub widen_spec : {M : Type 1} → statement M
 widen_spec = tie.close (tie.spec (λ c κs. search rules) (λ c κs. search rules) returns)

@@ -5,7 +5,7 @@ use Rattle.crc.proofs.wide.words_at.Statement.{statement}
 use Rattle.crc.proofs.wide.words_at.Tie as tie
 
 returns : tie.Need-returns
-returns c = c.turned.ensures.0 ∙ c.before.words-at.ensures
+returns c = c.turned.ensures.0 ∙ c.words_at.ensures
 
-pub words-at-spec : {M : Type 1} → statement M
-words-at-spec = tie.close (tie.spec (λ c κs. search rules) (λ c κs. search rules) returns)
+pub words_at_spec : {M : Type 1} → statement M
+words_at_spec = tie.close (tie.spec (λ c κs. search rules) (λ c κs. search rules) returns)
