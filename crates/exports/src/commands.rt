@@ -29,8 +29,7 @@ fn unpacked(n: u64) -> Fields
 }
 
 // The command reader: the number of further bytes; the fields where nothing is refused.
-#[unsafe(no_mangle)]
-pub extern "C" fn hawserfen_read_command(
+pub fn hawserfen_read_command(
     catalogue: u8,
     mode: u8,
     bytes: &[u8],
@@ -48,8 +47,7 @@ pub extern "C" fn hawserfen_read_command(
 }
 
 // The command writer: the command of these fields to the room.
-#[unsafe(no_mangle)]
-pub extern "C" fn hawserfen_write_command(
+pub fn hawserfen_write_command(
     catalogue: u8,
     mode: u8,
     fields: u64,

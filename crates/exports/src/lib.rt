@@ -15,16 +15,14 @@ ghost use Rattle.exports.specs.Answer.{written};
 use parity::Judged;
 
 // The CRC of words from a start register.
-#[unsafe(no_mangle)]
-pub extern "C" fn hawserfen_crc_words(start: u16, message: &[u16]) -> u16
+pub fn hawserfen_crc_words(start: u16, message: &[u16]) -> u16
     ensures { result ≡ crc_words start message.now }
 {
     crc::words(start, message)
 }
 
 // The same of bytes.
-#[unsafe(no_mangle)]
-pub extern "C" fn hawserfen_crc_bytes(start: u16, message: &[u8]) -> u16
+pub fn hawserfen_crc_bytes(start: u16, message: &[u8]) -> u16
     ensures { result ≡ crc_bytes start message.now }
 {
     crc::bytes(start, message)
@@ -39,16 +37,14 @@ fn in_bytes(r: Judged) -> u32
 }
 
 // The unit judge: what stands in a unit, without its data.
-#[unsafe(no_mangle)]
-pub extern "C" fn hawserfen_judge_unit(unit: &[u16]) -> u32
+pub fn hawserfen_judge_unit(unit: &[u16]) -> u32
     ensures { result ≡ in_bytes (judge_reply unit.now) }
 {
     in_bytes(parity::judge_unit(unit))
 }
 
 // The unit checker: the data to the room too, repaired where a data bit was hit.
-#[unsafe(no_mangle)]
-pub extern "C" fn hawserfen_check_unit(unit: &[u16], room: &mut [u16]) -> u32
+pub fn hawserfen_check_unit(unit: &[u16], room: &mut [u16]) -> u32
     ensures value { result ≡ in_bytes (check_reply unit.now (length room.old)) }
     ensures room_after { room.new ≡ check_room unit.now room.old }
 {
@@ -56,8 +52,7 @@ pub extern "C" fn hawserfen_check_unit(unit: &[u16], room: &mut [u16]) -> u32
 }
 
 // The unit writer: the unit of the data to the room.
-#[unsafe(no_mangle)]
-pub extern "C" fn hawserfen_write_unit(data: &[u16], room: &mut [u16]) -> u64
+pub fn hawserfen_write_unit(data: &[u16], room: &mut [u16]) -> u64
     ensures value { result ≡ written (write_reply (length «data».now) (length room.old)) }
     ensures room_after { room.new ≡ write_room «data».now room.old }
 {

@@ -8,8 +8,7 @@ use base::{Words, refusal};
 use health::packet;
 
 // The newest packet of a type: its recording, its place there, and the mark of its chunk.
-#[unsafe(no_mangle)]
-pub extern "C" fn hawserfen_last_place(
+pub fn hawserfen_last_place(
     science: &[u16],
     sync: u16,
     health: &[u16],
@@ -27,8 +26,7 @@ pub extern "C" fn hawserfen_last_place(
 }
 
 // The packet reader: type and time; the words after these to the room.
-#[unsafe(no_mangle)]
-pub extern "C" fn hawserfen_read_packet(packet: &[u16], room: &mut [u16]) -> u64
+pub fn hawserfen_read_packet(packet: &[u16], room: &mut [u16]) -> u64
     ensures value { result ≡ packet_reply packet.now (length room.old) }
     ensures room_after { room.new ≡ packet_room packet.now room.old }
 {

@@ -11,8 +11,7 @@ use crate::answer;
 use base::Words;
 
 // The survey: chunks, skipped words, and whether a chunk ends with the recording.
-#[unsafe(no_mangle)]
-pub extern "C" fn hawserfen_survey(recording: &[u16], sync: u16) -> u64
+pub fn hawserfen_survey(recording: &[u16], sync: u16) -> u64
     ensures { result ≡ surveyed (survey_reply sync recording.now) }
 {
     let s = chunk_reading::counting::survey(recording, sync);
@@ -20,8 +19,7 @@ pub extern "C" fn hawserfen_survey(recording: &[u16], sync: u16) -> u64
 }
 
 // The outline: image runs and health runs.
-#[unsafe(no_mangle)]
-pub extern "C" fn hawserfen_outline(recording: &[u16], sync: u16) -> u64
+pub fn hawserfen_outline(recording: &[u16], sync: u16) -> u64
     ensures { result ≡ outlined (outline_reply sync recording.now) }
 {
     let runs = chunk_outline::outline(recording, sync);
@@ -29,8 +27,7 @@ pub extern "C" fn hawserfen_outline(recording: &[u16], sync: u16) -> u64
 }
 
 // The frame at a place, its data to the room: chunks, data words, and the camera with the flags above it.
-#[unsafe(no_mangle)]
-pub extern "C" fn hawserfen_read_frame(
+pub fn hawserfen_read_frame(
     recording: &[u16],
     sync: u16,
     place: usize,
@@ -45,8 +42,7 @@ pub extern "C" fn hawserfen_read_frame(
 }
 
 // The reel writer: the reel of the recording to the room.
-#[unsafe(no_mangle)]
-pub extern "C" fn hawserfen_write_reel(recording: &[u16], sync: u16, room: &mut [u16]) -> u64
+pub fn hawserfen_write_reel(recording: &[u16], sync: u16, room: &mut [u16]) -> u64
     ensures value { result ≡ written (write_reply sync recording.now (length room.old)) }
     ensures room_after { room.new ≡ write_room sync recording.now room.old }
 {
@@ -54,8 +50,7 @@ pub extern "C" fn hawserfen_write_reel(recording: &[u16], sync: u16, room: &mut 
 }
 
 // The reel reader: the recording's words, and the entries.
-#[unsafe(no_mangle)]
-pub extern "C" fn hawserfen_read_reel(reel: &[u16], sync: u16) -> u64
+pub fn hawserfen_read_reel(reel: &[u16], sync: u16) -> u64
     ensures { result ≡ reeled (reels.read_reply sync reel.now) }
 {
     let r = reel::read(reel, sync);
