@@ -1,6 +1,6 @@
 -- `crc::bytes` meets its contract: the bytes that are left, whole blocks, take the register of what is held to the answer.
 use mathlib.Core.Path.{◌≡◌, ◌∙◌}
-use Prim.Native.Nat.{ℕ, ◌+◌, ◌*◌, ◌/◌, ◌%◌, ◌<◌, ◌≤◌, ◌-◌}
+use Prim.Native.Nat.{◌+◌, ◌*◌, ◌/◌, ◌%◌, ◌<◌, ◌≤◌, ◌-◌}
 use native.Mathlib.Nat.{le_refl}
 use native.Mathlib.Omega.{arith}
 use lib.ListN.{length, drop}
@@ -35,7 +35,7 @@ loop-holds c =
     let within : head + 8 ≤ length m = omega arith in (
       within,
       omega arith,
-      begun (Left 8 (crc_bytes a.start m) m) (pair_at m) 2 (length m) (pair_turn _ m (λ k. (known.shared-slice-known.given k).fits)) _ k _ _ _ _ _ place within
+      begun (Left 8 (crc_bytes a.start m) m) (pair_at m) 2 (length m) (pair_turn _ m (λ k. (c.shared_slice_known-1.given k).fits)) _ k _ _ _ _ _ place within
           c.bytes_at-first.ensures c.bytes_at.ensures c.begin-h.ensures c.first_bytes-r.ensures,
     )
 
@@ -44,12 +44,12 @@ unfolding after_high
 loop-again c =
     let a = c.args in
     let m = a.message.now in
-    let i = l.loop.i in
+    let i = c.loop-i.i in
     let within : i + 8 ≤ length m = omega arith in (
       within,
       omega arith,
-      more (Left 8 (crc_bytes a.start m) m) (pair_at m) 2 (length m) (pair_turn _ m (λ k. (known.shared-slice-known.given k).fits)) i _ _ within
-          c.bytes_at-in-loop-i.ensures c.join-h.ensures l.loop.invariant.2,
+      more (Left 8 (crc_bytes a.start m) m) (pair_at m) 2 (length m) (pair_turn _ m (λ k. (c.shared_slice_known-1.given k).fits)) i _ _ within
+          c.bytes_at-in-loop-i.ensures c.join-h.ensures c.loop-i.invariant.2,
     )
 
 returns-2 : tie.Need-returns invariant-loop-i decreases-loop-i

@@ -8,7 +8,7 @@ use Rattle.health.proofs.packet.is_sound.Statement.{statement}
 use Rattle.health.proofs.packet.is_sound.Tie as tie
 
 returns : tie.Need-returns
-returns c = ap (λ (n : ℕ). eqb n 0) c.read-verdict.ensures ∙ sound-verdict _
+returns c = ap (λ (n : ℕ). eqb n 0) c.read_verdict.ensures ∙ sound-verdict _
 
-pub is-sound-spec : {M : Type 1} → statement M
-is-sound-spec = tie.close (tie.spec (λ c κs. search rules) returns)
+pub is_sound_spec : {M : Type 1} → statement M
+is_sound_spec = tie.close (tie.spec (λ c κs. search rules) returns)

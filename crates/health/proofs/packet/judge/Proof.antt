@@ -4,14 +4,14 @@ use borrow.Author.Rules.{rules}
 use Rattle.health.proofs.packet.judge.Statement.{statement}
 use Rattle.health.proofs.packet.judge.Tie as tie
 
-returns : tie.Need-returns
-returns c = simp (ne_eqb _ _ c.if1.true)
+returns : tie.Need-returns-then-packet
+returns c = simp (ne_eqb _ _ c.if-packet.true)
 
-returns-2 : tie.Need-returns-2
-returns-2 c = simp (eq-eqb _ _ c.before.before.before.before.if1.false) (cc)
+returns-2 : tie.Need-returns
+returns-2 c = simp (eq-eqb _ _ c.if-packet.false) (cc)
 
-pub judge-spec : {M : Type 1} → statement M
-judge-spec =
+pub judge_spec : {M : Type 1} → statement M
+judge_spec =
     tie.close
     (tie.spec
     returns

@@ -6,14 +6,14 @@ use Rattle.health.proofs.Parts.{crc-parts}
 use Rattle.health.proofs.packet.packet_crc.Statement.{statement}
 use Rattle.health.proofs.packet.packet_crc.Tie as tie
 
-slice-aggregate-words : tie.Need-slice-aggregate-words
-slice-aggregate-words c = omega (arith, length-take 1 c.before.before.args.packet.now)
+slice-aggregate-words : tie.Need-slice_bounds-words-end
+slice-aggregate-words c = omega (arith, length-take 1 c.args.packet.now)
 
 returns : tie.Need-returns
-returns c = crc-parts _ c.before.before.words.ensures c.words2.ensures
+returns c = crc-parts _ c.words.ensures c.words-2.ensures
 
-pub packet-crc-spec : {M : Type 1} → statement M
-packet-crc-spec =
+pub packet_crc_spec : {M : Type 1} → statement M
+packet_crc_spec =
     tie.close
     (tie.spec
     slice-aggregate-words

@@ -7,23 +7,21 @@ use Rattle.health.proofs.Sound.{packet-long}
 use Rattle.health.proofs.packet.read_packet.Statement.{statement}
 use Rattle.health.proofs.packet.read_packet.Tie as tie
 
-returns : tie.Need-returns
+returns : tie.Need-returns-then-verdict-ne0
 unfolding read_reply
-returns c = c.refused.ensures ∙ refused _ _ c.before.before.read-verdict.ensures c.before.if1.true
+returns c = c.refused.ensures ∙ refused _ _ c.read_verdict-verdict.ensures c.if-verdict-ne0.true
 
-words-of-requires : tie.Need-words-of-requires
+words-of-requires : tie.Need-words_of-requires
 words-of-requires c κs =
-    let judged = c.before.before.before in
-    packet-long judged.before.before.args.packet.now judged.read-verdict.ensures c.before.before.if1.false
+    packet-long c.args.packet.now c.read_verdict-verdict.ensures c.if-verdict-ne0.false
 
-returns-2 : tie.Need-returns-2
+returns-2 : tie.Need-returns
 unfolding read_reply
 returns-2 c =
-    let judged = c.before.before.before.before in
-    given _ _ judged.read-verdict.ensures c.before.before.before.if1.false (cc)
+    given _ _ c.read_verdict-verdict.ensures c.if-verdict-ne0.false (cc)
 
-pub read-packet-spec : {M : Type 1} → statement M
-read-packet-spec =
+pub read_packet_spec : {M : Type 1} → statement M
+read_packet_spec =
     tie.close
     (tie.spec
     (λ c κs. search rules)

@@ -6,5 +6,5 @@ use Rattle.health.proofs.packet.read_verdict.Tie as tie
 returns : tie.Need-returns
 returns c = cc
 
-pub read-verdict-spec : {M : Type 1} → statement M
-read-verdict-spec = tie.close (tie.spec (λ c κs. search rules) (λ c κs. search rules) (λ c κs. search rules) returns)
+pub read_verdict_spec : {M : Type 1} → statement M
+read_verdict_spec = tie.close (tie.spec (λ c κs. search rules) (λ c κs. search rules) (λ c κs. search rules) returns)

@@ -10,20 +10,19 @@ use Rattle.health.proofs.Sound.{none-there}
 use Rattle.health.proofs.packet.sound_at.Statement.{statement}
 use Rattle.health.proofs.packet.sound_at.Tie as tie
 
-returns : tie.Need-returns
-returns c = sym (none-there c.before.before.before.args.words.now c.before.before.before.args.at.0 (omega arith))
+returns : tie.Need-returns-then-n
+returns c = sym (none-there c.args.words.now c.args.at.0 (omega arith))
 
-returns-2 : tie.Need-returns-2
-returns-2 c = sym (none-there c.before.before.before.before.before.args.words.now c.before.before.before.before.before.args.at.0 (omega arith))
+returns-2 : tie.Need-returns-then-n-from
+returns-2 c = sym (none-there c.args.words.now c.args.at.0 (omega arith))
 
-returns-3 : tie.Need-returns-3
+returns-3 : tie.Need-returns
 returns-3 c =
-    let start = c.before.before.before.before.before.before.before.before in
-    let n = add-sub_cancel_left start.args.at.0 32 in
-    c.is-sound.ensures ∙ ap (λ (k : ℕ). sound_packet (take k (drop start.args.at.0 start.args.words.now))) n
+    let n = add-sub_cancel_left c.args.at.0 32 in
+    c.is_sound.ensures ∙ ap (λ (k : ℕ). sound_packet (take k (drop c.args.at.0 c.args.words.now))) n
 
-pub sound-at-spec : {M : Type 1} → statement M
-sound-at-spec =
+pub sound_at_spec : {M : Type 1} → statement M
+sound_at_spec =
     tie.close
     (tie.spec
     returns

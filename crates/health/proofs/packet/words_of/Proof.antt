@@ -12,13 +12,12 @@ use Rattle.health.proofs.packet.words_of.Tie as tie
 
 returns : tie.Need-returns
 returns c =
-    let start = c.before.before.before.before.before in
-    let p = start.args.packet.now in
+    let p = c.args.packet.now in
     let zeros = replicate {A = ℕ} body_width 0 in
-    fills 3 p zeros (omega (arith, start.requires)) (c.before.put-words.ensures ∙ ap (λ (n : ℕ). put (take (n - 3) (drop 3 p)) 0 zeros) (sym start.requires))
+    fills 3 p zeros (omega (arith, c.requires)) (c.put_words.ensures ∙ ap (λ (n : ℕ). put (take (n - 3) (drop 3 p)) 0 zeros) (sym c.requires))
 
-pub words-of-spec : {M : Type 1} → statement M
-words-of-spec =
+pub words_of_spec : {M : Type 1} → statement M
+words_of_spec =
     tie.close
     (tie.spec
     (λ c. search rules)

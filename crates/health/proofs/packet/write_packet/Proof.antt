@@ -4,20 +4,17 @@ use Rattle.health.proofs.packet.Writing.{untouched, stored}
 use Rattle.health.proofs.packet.write_packet.Statement.{statement}
 use Rattle.health.proofs.packet.write_packet.Tie as tie
 
-returns : tie.Need-returns
-returns c = (c.before.before.plan.ensures, untouched _ _ _ _ c.before.before.plan.ensures c.if1.true)
+returns : tie.Need-returns-then-reply-ne0
+returns c = (c.plan-reply.ensures, untouched _ _ _ _ c.plan-reply.ensures c.if-reply-ne0.true)
 
-returns-2 : tie.Need-returns-2
+returns-2 : tie.Need-returns
 returns-2 c =
-    let put = c.before.before in
-    let crc = put.before.before.before in
-    let planned = crc.before.before.before in
-    let e = planned.before.before.plan.ensures in
-    let a = planned.before.before.before.before.before.args in
-    (e, stored a.packet-type a.time a.words.now a.room.now e planned.if1.false crc.before.words.ensures crc.words2.ensures put.put-joined.ensures)
+    let e = c.plan-reply.ensures in
+    let a = c.args in
+    (e, stored a.packet_type a.time a.words.now a.room.now e c.if-reply-ne0.false c.words.ensures c.words-crc.ensures c.put_joined.ensures)
 
-pub write-packet-spec : {M : Type 1} → statement M
-write-packet-spec =
+pub write_packet_spec : {M : Type 1} → statement M
+write_packet_spec =
     tie.close
     (tie.spec
     (λ c κs. search rules)
