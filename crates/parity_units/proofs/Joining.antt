@@ -21,7 +21,7 @@ use Rattle.parity.specs.Unit.{Finding, sound, parity_bit, data_bit, neither, fin
 use Rattle.parity.proofs.Judging.{named-length, judge-finds}
 use Rattle.parity_units.specs.Split.{units_in, given, given_data, data_words, data_words_in}
 use Rattle.parity_units.specs.Replies.{taken_reply, taken_room, join_reply, join_room, standing_data, copy_reply, copy_room, outcome_of, any_touched}
-use Rattle.parity_units.proofs.Split.{units-end, units-step, data-length, data-words, given-length, given-words}
+use Rattle.parity_units.proofs.Split.{units-end, units-step, data-length, data-words, given-length}
 
 -- ---- one unit, in a room that is long enough
 

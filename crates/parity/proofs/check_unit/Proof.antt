@@ -5,72 +5,56 @@ use Rattle.parity.proofs.Checking.{untouched, unit-length, bit-in-word, word-bel
 use Rattle.parity.proofs.check_unit.Statement.{statement}
 use Rattle.parity.proofs.check_unit.Tie as tie
 
-returns : tie.Need-returns
-returns c = (c.before.before.look.ensures, untouched _ _ _ c.before.before.look.ensures c.if1.true)
+returns : tie.Need-returns-then-r-ne0
+returns c = (c.look-r.ensures, untouched _ _ _ c.look-r.ensures c.if-r-ne0.true)
 
-sub-put-words : tie.Need-overflow-sub-put-words
+sub-put-words : tie.Need-slice_bounds-put_words-count
 sub-put-words c =
-    let a = c.before.before.before.before.before.args in
-    omega (arith, (unit-length a.unit.now a.room.now _ c.before.before.look.ensures c.if1.false).0)
+    let a = c.args in
+    omega (arith, (unit-length a.unit.now a.room.now _ c.look-r.ensures c.if-r-ne0.false).0)
 
-part-put-words-start : tie.Need-slice-bounds-put-words-start
+part-put-words-start : tie.Need-slice_bounds-put_words-start
 part-put-words-start c =
-    let a = c.before.before.before.before.before.args in
-    omega (arith, (unit-length a.unit.now a.room.now _ c.before.before.look.ensures c.if1.false).0)
+    let a = c.args in
+    omega (arith, (unit-length a.unit.now a.room.now _ c.look-r.ensures c.if-r-ne0.false).0)
 
-returns-2 : tie.Need-returns-2
+returns-2 : tie.Need-returns-then-r-ne2
 returns-2 c =
-    let put = c.before.before.before.before in
-    let accepted = put.before.before.before in
-    let e = accepted.before.before.look.ensures in
-    (e, data-as-they-stand _ _ _ e accepted.if1.false _ put.put-words.ensures c.if2.true)
+    let e = c.look-r.ensures in
+    (e, data-as-they-stand _ _ _ e c.if-r-ne0.false _ c.put_words.ensures c.if-r-ne2.true)
 
-mul-room : tie.Need-overflow-mul-room
+mul-room : tie.Need-offset_bounds-room-w
 mul-room c =
-    let accepted = c.before.before.before.before.before.before.before in
-    let looked = accepted.before.before in
-    let a = looked.before.before.before.args in
-    omega (arith, word-below-256 a.unit.now a.room.now _ looked.look.ensures accepted.if1.false c.if2.false)
+    let a = c.args in
+    omega (arith, word-below-256 a.unit.now a.room.now _ c.look-r.ensures c.if-r-ne0.false c.if-r-ne2.false)
 
-slice-read-room : tie.Need-slice-read-room
+slice-read-room : tie.Need-bounds-room-w
 slice-read-room c =
-    let put = c.before.before.before.before.before in
-    let accepted = put.before.before.before in
-    let looked = accepted.before.before in
-    let a = looked.before.before.before.args in
-    word-in-room a.unit.now a.room.now _ looked.look.ensures accepted.if1.false _ put.put-words.ensures c.before.if2.false
+    let a = c.args in
+    word-in-room a.unit.now a.room.now _ c.look-r.ensures c.if-r-ne0.false _ c.put_words.ensures c.if-r-ne2.false
 
-shl-room : tie.Need-overflow-shl-room
+shl-room : tie.Need-overflow_shl-room
 shl-room c =
-    let accepted = c.before.before.before.before.before.before.before.before.before in
-    let looked = accepted.before.before in
-    let a = looked.before.before.before.args in
-    bit-in-word a.unit.now a.room.now _ looked.look.ensures accepted.if1.false c.before.before.if2.false
+    let a = c.args in
+    bit-in-word a.unit.now a.room.now _ c.look-r.ensures c.if-r-ne0.false c.if-r-ne2.false
 
-mul-room-2 : tie.Need-overflow-mul-room-2
+mul-room-2 : tie.Need-offset_bounds-room-w-2
 mul-room-2 c =
-    let accepted = c.before.before.before.before.before.before.before.before.before in
-    let looked = accepted.before.before in
-    let a = looked.before.before.before.args in
-    omega (arith, word-below-256 a.unit.now a.room.now _ looked.look.ensures accepted.if1.false c.before.before.if2.false)
+    let a = c.args in
+    omega (arith, word-below-256 a.unit.now a.room.now _ c.look-r.ensures c.if-r-ne0.false c.if-r-ne2.false)
 
-slice-write-room : tie.Need-slice-write-room
+slice-write-room : tie.Need-bounds-room-w-2
 slice-write-room c =
-    let put = c.before.before.before.before.before.before in
-    let accepted = put.before.before.before in
-    let looked = accepted.before.before in
-    let a = looked.before.before.before.args in
-    word-in-room a.unit.now a.room.now _ looked.look.ensures accepted.if1.false _ put.put-words.ensures c.before.before.if2.false
+    let a = c.args in
+    word-in-room a.unit.now a.room.now _ c.look-r.ensures c.if-r-ne0.false _ c.put_words.ensures c.if-r-ne2.false
 
-returns-3 : tie.Need-returns-3
+returns-3 : tie.Need-returns
 returns-3 c =
-    let put = c.before.before.before.before.before.before in
-    let accepted = put.before.before.before in
-    let e = accepted.before.before.look.ensures in
-    (e, data-repaired _ _ _ e accepted.if1.false _ put.put-words.ensures c.before.before.if2.false)
+    let e = c.look-r.ensures in
+    (e, data-repaired _ _ _ e c.if-r-ne0.false _ c.put_words.ensures c.if-r-ne2.false)
 
-pub check-unit-spec : {M : Type 1} → statement M
-check-unit-spec =
+pub check_unit_spec : {M : Type 1} → statement M
+check_unit_spec =
     tie.close
     (tie.spec
     (λ c κs. search rules)

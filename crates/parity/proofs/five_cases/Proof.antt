@@ -5,23 +5,23 @@ use borrow.Author.Rules.{rules}
 use Rattle.parity.proofs.five_cases.Statement.{statement}
 use Rattle.parity.proofs.five_cases.Tie as tie
 
-returns : tie.Need-returns
-returns c = c.accept.ensures ∙ case-sound _ _ _ _ _ c.before.if1.true
+returns : tie.Need-returns-then-r-c
+returns c = c.accept.ensures ∙ case-sound _ _ _ _ _ c.if-r-c.true
 
-returns-2 : tie.Need-returns-2
-returns-2 c = c.accept2.ensures ∙ case_row _ _ _ _ _ c.before.before.before.if1.false _ c.before.before.if2.true c.before.bit-of.ensures
+returns-2 : tie.Need-returns-then-r-c-2
+returns-2 c = c.accept-then-r-c-2.ensures ∙ case_row _ _ _ _ _ c.if-r-c.false _ c.if-r-c-2.true c.bit_of.ensures
 
-returns-3 : tie.Need-returns-3
-returns-3 c = c.accept3.ensures ∙ case-column _ _ _ _ _ c.before.before.before.before.if1.false _ c.before.before.before.if2.false c.before.before.if3.true c.before.bit-of2.ensures
+returns-3 : tie.Need-returns-then-r-c-3
+returns-3 c = c.accept-then-r-c-3.ensures ∙ case-column _ _ _ _ _ c.if-r-c.false _ c.if-r-c-2.false c.if-r-c-3.true c.bit_of-then-r-c-3.ensures
 
-returns-4 : tie.Need-returns-4
-returns-4 c = c.accept4.ensures ∙ case-data _ _ _ _ _ c.before.before.before.before.before.before.if1.false _ c.before.before.before.before.before.if2.false c.before.before.before.before.if3.false c.before.before.if4.true c.before.bit-of3.ensures
+returns-4 : tie.Need-returns-then-r-c-4
+returns-4 c = c.accept-then-r-c-4.ensures ∙ case-data _ _ _ _ _ c.if-r-c.false _ c.if-r-c-2.false c.if-r-c-3.false c.if-r-c-4.true c.bit_of-then-r-c-4.ensures
 
-returns-5 : tie.Need-returns-5
-returns-5 c = c.refused.ensures ∙ case-neither _ _ _ _ _ c.before.before.before.before.before.if1.false 0 c.before.before.before.before.if2.false c.before.before.before.if3.false c.before.if4.false
+returns-5 : tie.Need-returns
+returns-5 c = c.refused.ensures ∙ case-neither _ _ _ _ _ c.if-r-c.false 0 c.if-r-c-2.false c.if-r-c-3.false c.if-r-c-4.false
 
-pub five-cases-spec : {M : Type 1} → statement M
-five-cases-spec =
+pub five_cases_spec : {M : Type 1} → statement M
+five_cases_spec =
     tie.close
     (tie.spec
     (λ c. search rules)

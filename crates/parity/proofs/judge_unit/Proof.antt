@@ -12,44 +12,41 @@ use borrow.Author.Rules.{rules}
 use Rattle.parity.proofs.judge_unit.Statement.{statement}
 use Rattle.parity.proofs.judge_unit.Tie as tie
 
-returns : tie.Need-returns
+returns : tie.Need-returns-then-not-first-n
 returns c =
-    let u = c.before.before.before.before.args.unit.now in
+    let u = c.args.unit.now in
     c.refused.ensures
-    ∙ elim (outside _ _ (length u) c.before.if1.true) [
+    ∙ elim (outside _ _ (length u) c.if-not-first-n.true-raw) [
       | inl short ↦ wrong-length u (inl (omega (arith, short)))
       | inr long ↦ wrong-length u (inr (omega (arith, long)))
     ]
 
-sub-parity : tie.Need-overflow-sub-parity
-sub-parity c = omega (arith, (between _ _ (length c.before.before.before.before.args.unit.now) c.before.if1.false).0)
+sub-parity : tie.Need-slice_bounds-parity-count
+sub-parity c = omega (arith, (between _ _ (length c.args.unit.now) c.if-not-first-n.false-raw).0)
 
-part-parity-start : tie.Need-slice-bounds-parity-start
-part-parity-start c = omega (arith, (between _ _ (length c.before.before.before.before.args.unit.now) c.before.if1.false).0)
+part-parity-start : tie.Need-slice_bounds-parity-start
+part-parity-start c = omega (arith, (between _ _ (length c.args.unit.now) c.if-not-first-n.false-raw).0)
 
-sub-five-cases : tie.Need-overflow-sub-five-cases
+sub-five-cases : tie.Need-overflow_sub-k
 sub-five-cases c =
-    let stated = c.before.before.before.before.before.before in
-    omega (arith, (between _ _ (length stated.before.before.before.before.args.unit.now) stated.before.if1.false).0)
+    omega (arith, (between _ _ (length c.args.unit.now) c.if-not-first-n.false-raw).0)
 
-cast-five-cases : tie.Need-overflow-cast-five-cases
-cast-five-cases c = omega (arith, leading_le 64 (c.before.before.before.before.before.before.stated.result.rows xor c.before.before.before.before.parity.result.rows))
+cast-five-cases : tie.Need-overflow_cast-rows
+cast-five-cases c = omega (arith, leading_le 64 (c.stated-stated.result.rows xor c.parity-found.result.rows))
 
-cast-five-cases-2 : tie.Need-overflow-cast-five-cases-2
-cast-five-cases-2 c = omega (arith, leading_le 64 (c.before.before.before.before.before.before.stated.result.columns xor c.before.before.before.before.parity.result.columns))
+cast-five-cases-2 : tie.Need-overflow_cast-columns
+cast-five-cases-2 c = omega (arith, leading_le 64 (c.stated-stated.result.columns xor c.parity-found.result.columns))
 
-five-cases-requires : tie.Need-five-cases-requires
+five-cases-requires : tie.Need-five_cases-requires
 five-cases-requires c κs = (leading_le 64 _, leading_le 64 _)
 
-returns-2 : tie.Need-returns-2
+returns-2 : tie.Need-returns
 returns-2 c =
-    let parity = c.before.before.before.before.before in
-    let stated = parity.before.before in
-    let u = stated.before.before.before.before.args.unit.now in
-    judged-by u _ _ _ stated.before.if1.false stated.stated.ensures (parity.parity.ensures ∙ ap parities (to_end 8 u)) c.five-cases.ensures
+    let u = c.args.unit.now in
+    judged-by u _ _ _ c.if-not-first-n.false-raw c.stated-stated.ensures (c.parity-found.ensures ∙ ap parities (to_end 8 u)) c.five_cases.ensures
 
-pub judge-unit-spec : {M : Type 1} → statement M
-judge-unit-spec =
+pub judge_unit_spec : {M : Type 1} → statement M
+judge_unit_spec =
     tie.close
     (tie.spec
     (λ c. search rules)

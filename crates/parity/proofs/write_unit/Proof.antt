@@ -4,18 +4,16 @@ use borrow.Author.Rules.{rules}
 use Rattle.parity.proofs.write_unit.Statement.{statement}
 use Rattle.parity.proofs.write_unit.Tie as tie
 
-returns : tie.Need-returns
-returns c = (c.before.before.plan.ensures, untouched _ _ _ c.before.before.plan.ensures c.if1.true)
+returns : tie.Need-returns-then-r-ne0
+returns c = (c.plan-r.ensures, untouched _ _ _ c.plan-r.ensures c.if-r-ne0.true)
 
-returns-2 : tie.Need-returns-2
+returns-2 : tie.Need-returns
 returns-2 c =
-    let put = c.before.before in
-    let words = put.before.before.before in
-    let e = words.before.before.before.plan.ensures in
-    (e, stored _ _ _ e words.before.if1.false _ _ words.parity-words.ensures put.put-joined.ensures)
+    let e = c.plan-r.ensures in
+    (e, stored _ _ _ e c.if-r-ne0.false _ _ c.parity_words-parity.ensures c.put_joined.ensures)
 
-pub write-unit-spec : {M : Type 1} → statement M
-write-unit-spec =
+pub write_unit_spec : {M : Type 1} → statement M
+write_unit_spec =
     tie.close
     (tie.spec
     (λ c κs. search rules)

@@ -1,7 +1,6 @@
 -- `parity_rows::last_row` meets its contract: the fourth word is past the end, and 0 there, as `get_or` gives it.
 use mathlib.Core.Path.{sym, ◌∙◌}
 use Prim.Native.Nat.{◌+◌}
-use native.Mathlib.Omega.{arith}
 use lib.ListN.{get_or-eq_default}
 use Rattle.parity_rows.proofs.Words.{packed}
 use borrow.Author.Rules.{rules}

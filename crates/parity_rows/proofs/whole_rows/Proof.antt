@@ -1,5 +1,5 @@
 -- `parity_rows::whole_rows` meets its contract. The loop's invariant: with the columns turned round the sums are those of the first r rows.
-use mathlib.Core.Path.{◌≡◌, refl, sym, ap, ◌∙◌}
+use mathlib.Core.Path.{◌≡◌, refl, ap, ◌∙◌}
 use Prim.Native.Nat.{◌-◌, ◌<◌, ◌≤◌}
 use native.Mathlib.Omega.{arith}
 use borrow.Author.Rules.{rules}
@@ -24,10 +24,10 @@ loop-again : tie.Need-loop-r-preserved invariant-loop-r decreases-loop-r
 loop-again c =
     let a = c.args in
     let d = a.«data».now in
-    let at : l.loop.r < 64 = omega arith in (
+    let at : c.loop-r.r < 64 = omega arith in (
       omega arith,
-      ap turned c.add-s.ensures ∙ turned_more d (λ i. (l.before.shared-slice-known.given i).fits) l.loop.s l.loop.r c.load.ensures
-          ∙ next-sums d l.loop.r at l.loop.invariant.1 refl refl,
+      ap turned c.add-s.ensures ∙ turned_more d (λ i. (c.shared_slice_known-1.given i).fits) c.loop-r.s c.loop-r.r c.load.ensures
+          ∙ next-sums d c.loop-r.r at c.loop-r.invariant.1 refl refl,
     )
 
 returns : tie.Need-returns invariant-loop-r decreases-loop-r

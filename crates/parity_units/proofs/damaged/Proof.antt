@@ -8,5 +8,5 @@ use Rattle.parity_units.proofs.damaged.Tie as tie
 returns : tie.Need-returns
 returns c = ap (λ (h : Harm). h.damaged) c.inspect.ensures
 
-pub damaged-spec : {M : Type 1} → statement M
-damaged-spec = tie.close (tie.spec (λ c κs. search rules) returns)
+pub damaged_spec : {M : Type 1} → statement M
+damaged_spec = tie.close (tie.spec (λ c κs. search rules) returns)

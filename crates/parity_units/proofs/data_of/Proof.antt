@@ -7,16 +7,16 @@ use Rattle.base_room.proofs.RoomLaws.{to_end}
 use Rattle.parity_units.proofs.data_of.Statement.{statement}
 use Rattle.parity_units.proofs.data_of.Tie as tie
 
-returns : tie.Need-returns
+returns : tie.Need-returns-then-n-first
 returns c =
-    let u = c.before.before.args.unit.now in
+    let u = c.args.unit.now in
     to_end (length u) u ∙ drop_of_length-le u {i = length u} (omega arith) ∙ sym (drop_of_length-le u {i = 8} (omega arith))
 
-returns-2 : tie.Need-returns-2
-returns-2 c = to_end 8 c.before.before.args.unit.now
+returns-2 : tie.Need-returns
+returns-2 c = to_end 8 c.args.unit.now
 
-pub data-of-spec : {M : Type 1} → statement M
-data-of-spec =
+pub data_of_spec : {M : Type 1} → statement M
+data_of_spec =
     tie.close
     (tie.spec
     (λ c. search rules)

@@ -12,20 +12,17 @@ use Rattle.parity_units.proofs.fits.Tie as tie
 abbrev needed : tie.Start → ℕ
 needed a = a.args.place.0 + data_words_in a.args.n.0
 
-returns : tie.Need-returns
+returns : tie.Need-returns-then-room-most
 returns c =
-    let a = c.before.before.before in
-    sym (lt-leb (needed a) a.args.room.0 (omega (arith, c.if1.true, c.before.before.data-words.ensures)))
+    sym (lt-leb (needed c.before.before.before) c.args.room.0 (omega (arith, c.if-room-most.true, c.data_words-most.ensures)))
 
-returns-2 : tie.Need-returns-2
+returns-2 : tie.Need-returns-then-room-most-2
 returns-2 c =
-    let a = c.before.before.before.before.before.before in
-    sym (lt-leb (needed a) a.args.room.0 (omega (arith, c.if2.true, c.before.before.before.before.before.data-words.ensures)))
+    sym (lt-leb (needed c.before.before.before.before.before.before) c.args.room.0 (omega (arith, c.if-room-most-2.true, c.data_words-most.ensures)))
 
-returns-3 : tie.Need-returns-3
+returns-3 : tie.Need-returns
 returns-3 c =
-    let a = c.before.before.before.before.before.before in
-    sym (le-leb (needed a) a.args.room.0 (omega (arith, c.if2.false, c.before.before.before.if1.false, c.before.before.before.before.before.data-words.ensures)))
+    sym (le-leb (needed c.before.before.before.before.before.before) c.args.room.0 (omega (arith, c.if-room-most-2.false, c.if-room-most.false, c.data_words-most.ensures)))
 
-pub fits-spec : {M : Type 1} → statement M
-fits-spec = tie.close (tie.spec (λ c κs. search rules) returns returns-2 returns-3)
+pub fits_spec : {M : Type 1} → statement M
+fits_spec = tie.close (tie.spec (λ c κs. search rules) returns returns-2 returns-3)

@@ -8,33 +8,31 @@ use Rattle.parity_units.proofs.Judging.{Inspected, none-inspected, unit-inspecte
 use Rattle.parity_units.proofs.inspect.Statement.{statement}
 use Rattle.parity_units.proofs.inspect.Tie as tie
 
-abbrev invariant-loop : tie.invariant-loop
-invariant-loop payload n damaged₀ touched₀ at₀ damaged touched at = Inspected payload at damaged touched
+abbrev invariant-loop-at : tie.invariant-loop-at
+invariant-loop-at payload n damaged₀ touched₀ at₀ damaged touched at = Inspected payload at damaged touched
 
-abbrev decreases-loop : tie.decreases-loop
-decreases-loop payload n damaged₀ touched₀ at₀ damaged touched at = length payload - at
+abbrev decreases-loop-at : tie.decreases-loop-at
+decreases-loop-at payload n damaged₀ touched₀ at₀ damaged touched at = length payload - at
 
-loop-holds : tie.Need-loop-init invariant-loop decreases-loop
-loop-holds c = none-inspected c.before.args.payload.now
+loop-holds : tie.Need-loop-at-init invariant-loop-at decreases-loop-at
+loop-holds c = none-inspected c.args.payload.now
 
-loop-again : tie.Need-loop-preserved invariant-loop decreases-loop
+loop-again : tie.Need-loop-at-preserved invariant-loop-at decreases-loop-at
 loop-again c =
-    let t = c.before.before.before.before in
-    let l = t.before.before in
-    unit-inspected _ _ _ _ l.loop.invariant _ t.before.loop-test.true t.unit-end.ensures _ c.before.before.judge-unit.ensures
-    _ c.before.outcome-of.ensures
+    unit-inspected _ _ _ _ c.loop-at.invariant _ c.loop-at-test.true c.unit_end-end.ensures _ c.judge_unit-unit.ensures
+    _ c.outcome_of-outcome.ensures
 
-returns : tie.Need-returns invariant-loop decreases-loop
+returns : tie.Need-returns invariant-loop-at decreases-loop-at
 returns c =
-    let h = all-inspected _ _ _ _ c.before.loop.invariant c.loop-test.false in
+    let h = all-inspected _ _ _ _ c.loop-at.invariant c.loop-at-test.false in
     ap₂ (λ (d t : Bool). record { damaged = d; touched = t }) h.0 h.1
 
-pub inspect-spec : {M : Type 1} → statement M
-inspect-spec =
+pub inspect_spec : {M : Type 1} → statement M
+inspect_spec =
     tie.close
     (tie.spec
-    invariant-loop
-    decreases-loop
+    invariant-loop-at
+    decreases-loop-at
     loop-holds
     (λ c κs. search rules)
     (λ c. search rules)
