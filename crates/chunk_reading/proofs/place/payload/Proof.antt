@@ -35,9 +35,9 @@ inside c =
 
 returns : tie.Need-returns-then-chunk-ne0
 returns c =
-    let a = b.before.before.before.args in
+    let a = c.args in
     refused-payload a.sync a.recording.now a.place.0
-    (λ z. c.before.if1.true (ap (λ (x : Heading). x.refusal) b.before.at.ensures ∙ at-number a.sync a.recording.now a.place.0 ∙ z))
+    (λ z. c.if-chunk-ne0.true (ap (λ (x : Heading). x.refusal) c.at-chunk.ensures ∙ at-number a.sync a.recording.now a.place.0 ∙ z))
 
 add-from : tie.Need-overflow_add-from
 add-from c = record { fits = omega (arith, inside c.before) }
@@ -48,7 +48,7 @@ add-to c = record { fits = omega (arith, inside c.before.before) }
 mul-result : tie.Need-offset_bounds-recording-from
 mul-result c = record { fits = omega (arith, inside c.before.before) }
 
-part-result-end : tie.Need-slice-bounds-result-end
+part-result-end : tie.Need-slice_bounds-result-end-2
 part-result-end c = omega (arith, inside c.before.before)
 
 returns-2 : tie.Need-returns
