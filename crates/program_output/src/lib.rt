@@ -6,15 +6,19 @@ ghost use Rattle.base_room.specs.Room.{put};
 ghost use Rattle.program_output.specs.Output.{page_size, to_reply, append_reply, decimal};
 
 use base::Bytes;
-use libc::STDERR_FILENO;
 
 // bytes that are written at once
 pub const PAGE: Bytes = Bytes(4096);
 
+// the descriptors that a page may go to: standard output and standard error
+pub const OUTPUT: i32 = 1;
+
+pub const ERROR: i32 = 2;
+
 // the most digits that a number has, a byte each
 const DIGITS: Bytes = Bytes(20);
 
-// Where the bytes go, how many of them stand on the page, and whether any were lost.
+// Where the bytes go, `OUTPUT` or `ERROR`, how many of them stand on the page, and whether any were lost.
 #[derive(Clone, Copy)]
 pub struct Out {
     pub descriptor: i32,
@@ -63,11 +67,11 @@ impl Out {
     }
 
     // Writes what stands on the page. Once some bytes were lost nothing more is written.
-    pub fn flush(self, page: &[u8; PAGE.0]) -> Out {
-        self.send(page)
+    pub fn flush(self, rt: HostRuntime, page: &[u8; PAGE.0]) -> Out {
+        self.send(rt, page)
     }
 
-    fn send(mut self, page: &[u8]) -> Out {
+    fn send(mut self, rt: HostRuntime, page: &[u8]) -> Out {
         let used = self.used.0;
         let none = Bytes(0);
         self.used = none;
@@ -78,39 +82,48 @@ impl Out {
             self.failed = true;
             return self;
         }
-        self.failed = !io::write_all(self.descriptor, &page[..used]);
+        self.failed = !written(rt, self.descriptor, &page[..used]);
         self
     }
 
     // The page with room for so many bytes more, if it has as many.
-    fn ready(self, page: &[u8; PAGE.0], more: Bytes) -> Out {
+    fn ready(self, rt: HostRuntime, page: &[u8; PAGE.0], more: Bytes) -> Out {
         if fits(self.used, more) {
             return self;
         }
-        self.flush(page)
+        self.flush(rt, page)
     }
 
     // Text of no more than a page.
-    pub fn text(self, page: &mut [u8; PAGE.0], bytes: &[u8]) -> Out {
-        self.ready(page, Bytes(bytes.len())).append(page, bytes)
+    pub fn text(self, rt: HostRuntime, page: &mut [u8; PAGE.0], bytes: &[u8]) -> Out {
+        self.ready(rt, page, Bytes(bytes.len())).append(page, bytes)
     }
 
     // A number in decimal digits.
-    pub fn number(self, page: &mut [u8; PAGE.0], n: usize) -> Out {
-        self.ready(page, DIGITS).append_number(page, n)
+    pub fn number(self, rt: HostRuntime, page: &mut [u8; PAGE.0], n: usize) -> Out {
+        self.ready(rt, page, DIGITS).append_number(page, n)
     }
 
     // The line of a refusal.
-    pub fn refused(self, page: &mut [u8; PAGE.0], refusal: u8) -> Out {
-        self.text(page, b"refused ")
-            .number(page, refusal as usize)
-            .text(page, b"\n")
+    pub fn refused(self, rt: HostRuntime, page: &mut [u8; PAGE.0], refusal: u8) -> Out {
+        self.text(rt, page, b"refused ")
+            .number(rt, page, refusal as usize)
+            .text(rt, page, b"\n")
     }
 }
 
 // Says on standard error what a program cannot say in its output.
-pub fn complain(bytes: &[u8]) {
-    io::write_all(STDERR_FILENO, bytes);
+pub fn complain(rt: HostRuntime, bytes: &[u8]) {
+    written(rt, ERROR, bytes);
+}
+
+// Writes all of the bytes, and whether that was done. No other descriptor is written.
+fn written(rt: HostRuntime, descriptor: i32, bytes: &[u8]) -> bool {
+    match descriptor {
+        OUTPUT => rt.stdout().write_all(bytes).is_ok(),
+        ERROR => rt.stderr().write_all(bytes).is_ok(),
+        _ => false,
+    }
 }
 
 // Whether so many bytes more have room on the page. No sum of the two: it may be too large.

@@ -1,9 +1,10 @@
-// A program's input: the bytes of a descriptor. What they are is the descriptor's; that they are counted within the room is proved.
+// A program's input: the bytes of a reader. What they are is the reader's; that they are counted within the room is proved.
 #![tactic(auto)]
 
 ghost use Rattle.io.specs.Counts.{IsPrefixLen};
 
 use base::Bytes;
+use std::io::Read;
 
 // How many bytes came, or that reading failed.
 #[derive(Clone, Copy)]
@@ -13,19 +14,17 @@ pub struct Taken {
 }
 
 // Reads until the input ends or the room is full. A pipe may hand over a few bytes at a time.
-pub fn take(descriptor: i32, room: &mut [u8]) -> Taken
+pub fn take<R: Read>(reader: &mut R, room: &mut [u8]) -> Taken
     ensures { IsPrefixLen result.count.0 room.new }
 {
     let mut count: usize = 0;
     while count < room.len() {
-        let got = libc::read(descriptor, &mut room[count..]);
-        if got < 0 {
+        let Ok(more) = reader.read(&mut room[count..]) else {
             return Taken {
                 failed: true,
                 count: Bytes(0),
             };
-        }
-        let more = io::count(got, &room[count..]);
+        };
         if more == 0 {
             break;
         }

@@ -8,5 +8,5 @@ returns : tie.Need-returns
 unfolding words_reply
 returns c = cc
 
-pub plan-spec : {M : Type 1} → statement M
-plan-spec = tie.close (tie.spec (λ c κs. search rules) (λ c κs. search rules) (λ c κs. search rules) (λ c κs. search rules) returns)
+pub plan_spec : {M : Type 1} → statement M
+plan_spec = tie.close (tie.spec (λ c κs. search rules) (λ c κs. search rules) (λ c κs. search rules) (λ c κs. search rules) returns)

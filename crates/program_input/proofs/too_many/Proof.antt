@@ -16,11 +16,11 @@ halved most n some = by-test (ltb most ((n - 1) / 2)) refl
     by-test true e = sym (lt-ltb (2 * (1 + most)) n (omega (arith, some, ltb-true most ((n - 1) / 2) e)))
     by-test false e = sym (le-ltb (2 * (1 + most)) n (omega (arith, some, ltb-false most ((n - 1) / 2) e)))
 
-returns : tie.Need-returns
-returns c = let a = c.before.args in sym (le-ltb (2 * (1 + a.most.0)) a.bytes.0 (omega (arith, c.if1.true)))
+returns : tie.Need-returns-then-n-eq0
+returns c = let a = c.args in sym (le-ltb (2 * (1 + a.most.0)) a.bytes.0 (omega (arith, c.if-n-eq0.true)))
 
-returns-2 : tie.Need-returns-2
-returns-2 c = halved _ _ c.before.if1.false
+returns-2 : tie.Need-returns
+returns-2 c = halved _ _ c.if-n-eq0.false
 
-pub too-many-spec : {M : Type 1} → statement M
-too-many-spec = tie.close (tie.spec returns (λ c. search rules) returns-2)
+pub too_many_spec : {M : Type 1} → statement M
+too_many_spec = tie.close (tie.spec returns (λ c. search rules) returns-2)

@@ -9,53 +9,46 @@ use Rattle.program_input.proofs.Joining.{words-length, joined, untouched, fits, 
 use Rattle.program_input.proofs.words.Statement.{statement}
 use Rattle.program_input.proofs.words.Tie as tie
 
-abbrev invariant-loop : tie.invariant-loop
-invariant-loop bytes room₀ reply n i₀ room i = Pasted (words_of bytes) room₀ 0 room i
+abbrev invariant-loop-i : tie.invariant-loop-i
+invariant-loop-i bytes room₀ reply n i₀ room i = Pasted (words_of bytes) room₀ 0 room i
 
-abbrev decreases-loop : tie.decreases-loop
-decreases-loop bytes room₀ reply n i₀ room i = length bytes / 2 - i
+abbrev decreases-loop-i : tie.decreases-loop-i
+decreases-loop-i bytes room₀ reply n i₀ room i = length bytes / 2 - i
 
-returns : tie.Need-returns invariant-loop decreases-loop
+returns : tie.Need-returns-then-reply-ne0 invariant-loop-i decreases-loop-i
 returns c =
-    let p = c.before.before in
-    let a = p.before.before.before.args in
-    (p.plan.ensures, untouched a.bytes.now a.most.0 a.room.now _ p.plan.ensures c.if1.true)
+    let a = c.args in
+    (c.plan-reply.ensures, untouched a.bytes.now a.most.0 a.room.now _ c.plan-reply.ensures c.if-reply-ne0.true)
 
-loop-holds : tie.Need-loop-init invariant-loop decreases-loop
+loop-holds : tie.Need-loop-i-init invariant-loop-i decreases-loop-i
 loop-holds c =
-    let p = c.before.before in
-    let a = p.before.before.before.args in
-    pasted-none _ _ _ (fits a.bytes.now a.most.0 a.room.now _ p.plan.ensures c.if1.false)
+    let a = c.args in
+    pasted-none _ _ _ (fits a.bytes.now a.most.0 a.room.now _ c.plan-reply.ensures c.if-reply-ne0.false)
 
-slice-write-room : tie.Need-slice-write-room invariant-loop decreases-loop
+slice-write-room : tie.Need-bounds-room-i invariant-loop-i decreases-loop-i
 slice-write-room c =
-    let l = c.before.before.before.before in
-    let p = l.before.before.before in
-    let a = p.before.before.before.args in
-    omega (arith, l.loop.invariant.fits, l.loop.invariant.long, words-length a.bytes.now, c.before.before.before.loop-test.true)
+    let a = c.args in
+    omega (arith, c.loop-i.invariant.fits, c.loop-i.invariant.long, words-length a.bytes.now, c.loop-i-test.true)
 
-loop-again : tie.Need-loop-preserved invariant-loop decreases-loop
+loop-again : tie.Need-loop-i-preserved invariant-loop-i decreases-loop-i
 loop-again c =
-    let t = c.before.before.before in
-    let a = t.before.before.before.before.before.before.before.args in
-    joined a.bytes.now _ _ _ _ t.before.loop.invariant t.loop-test.true c.word.ensures
+    let a = c.args in
+    joined a.bytes.now _ _ _ _ c.loop-i.invariant c.loop-i-test.true c.word.ensures
 
-returns-2 : tie.Need-returns-2 invariant-loop decreases-loop
+returns-2 : tie.Need-returns invariant-loop-i decreases-loop-i
 returns-2 c =
-    let e = c.before.before in
-    let p = e.before.before in
-    let a = p.before.before.before.args in (
-      p.plan.ensures,
-      written a.bytes.now a.most.0 a.room.now _ p.plan.ensures e.if1.false _
-          (pasted-all _ _ _ _ _ c.before.loop.invariant (omega (arith, words-length a.bytes.now, c.loop-test.false))),
+    let a = c.args in (
+      c.plan-reply.ensures,
+      written a.bytes.now a.most.0 a.room.now _ c.plan-reply.ensures c.if-reply-ne0.false _
+          (pasted-all _ _ _ _ _ c.loop-i.invariant (omega (arith, words-length a.bytes.now, c.loop-i-test.false))),
     )
 
-pub words-spec : {M : Type 1} → statement M
-words-spec =
+pub words_spec : {M : Type 1} → statement M
+words_spec =
     tie.close
     (tie.spec
-    invariant-loop
-    decreases-loop
+    invariant-loop-i
+    decreases-loop-i
     (λ c κs. search rules)
     returns
     loop-holds

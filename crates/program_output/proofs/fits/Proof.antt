@@ -17,11 +17,11 @@ summed used more h = by-test (leb used (page_size - more)) refl
     by-test true e = sym (le-leb (used + more) page_size (omega (arith, leb-true used (page_size - more) e)))
     by-test false e = sym (lt-leb (used + more) page_size (omega (arith, leb-false used (page_size - more) e)))
 
-returns : tie.Need-returns
-returns c = let a = c.before.before.before.args in sym (lt-leb (a.used.0 + a.more.0) page_size (omega (arith, c.if1.true)))
+returns : tie.Need-returns-then-more
+returns c = let a = c.args in sym (lt-leb (a.used.0 + a.more.0) page_size (omega (arith, c.if-more.true)))
 
-returns-2 : tie.Need-returns-2
-returns-2 c = summed _ _ c.before.before.before.if1.false
+returns-2 : tie.Need-returns
+returns-2 c = summed _ _ c.if-more.false
 
-pub fits-spec : {M : Type 1} → statement M
-fits-spec = tie.close (tie.spec returns (λ c. search rules) returns-2)
+pub fits_spec : {M : Type 1} → statement M
+fits_spec = tie.close (tie.spec returns (λ c. search rules) returns-2)

@@ -6,7 +6,7 @@ use native.Mathlib.Omega.{arith}
 use lib.ListN.{length}
 use lib.Dec.{leb}
 use borrow.Author.Rules.{rules}
-use borrow.Author.Tests.{leb-true, not-true, not-false}
+use borrow.Author.Tests.{leb-true}
 use Rattle.program_output.specs.declared.Out.{Out}
 use Rattle.program_output.specs.Output.{page_size, page, append_reply}
 use Rattle.program_output.proofs.Out.append.Statement.{statement}
@@ -19,22 +19,19 @@ module _ (out : Out) (n : ℕ) {fit : Bool} (e : fit ≡ leb (out.used.0 + n) pa
   counted : fit ≡ true → page out.descriptor (out.used.0 + n) out.failed ≡ append_reply out n
   counted f = rw (sym e ∙ f)
 
-returns : tie.Need-returns
+returns : tie.Need-returns-then-not-fit
 returns c =
-    let f = c.before.before.before in
-    (lost f.before.before.args.self _ f.fits2.ensures (not-true _ c.if1.true), c.before.put-bytes.ensures)
+    (lost c.args.self _ c.fits-fit.ensures c.if-not-fit.true, c.put_bytes.ensures)
 
-add-t14 : tie.Need-overflow-add-t14
+add-t14 : tie.Need-overflow_add-together
 add-t14 c =
-    let f = c.before.before.before in
-    let a = f.before.before.args in
-    let e : a.self.used.0 + length a.bytes.now ≤ page_size = leb-true _ _ (sym f.fits2.ensures ∙ not-false _ c.if1.false) in
+    let a = c.args in
+    let e : a.self.used.0 + length a.bytes.now ≤ page_size = leb-true _ _ (sym c.fits-fit.ensures ∙ c.if-not-fit.false) in
     record { fits = omega arith }
 
-returns-2 : tie.Need-returns-2
+returns-2 : tie.Need-returns
 returns-2 c =
-    let f = c.before.before.before in
-    (counted f.before.before.args.self _ f.fits2.ensures (not-false _ c.if1.false), c.before.put-bytes.ensures)
+    (counted c.args.self _ c.fits-fit.ensures c.if-not-fit.false, c.put_bytes.ensures)
 
-pub append-spec : {M : Type 1} → statement M
-append-spec = tie.close (tie.spec (λ c κs. search rules) (λ c κs. search rules) returns add-t14 returns-2)
+pub append_spec : {M : Type 1} → statement M
+append_spec = tie.close (tie.spec (λ c κs. search rules) (λ c κs. search rules) returns add-t14 returns-2)

@@ -12,13 +12,11 @@ use Rattle.program_output.proofs.Out.append_number.Tie as tie
 
 returns : tie.Need-returns
 returns c =
-    let d = c.before.before.before in
-    let start = d.before.before in
-    let a = start.args in
-    let e = d.decimal.ensures.1.1 ∙ spelled a.n _ start.ranges.n.fits d.decimal.ensures.1.0 in (
+    let a = c.args in
+    let e = c.decimal-count.ensures.1.1.0 ∙ spelled a.n _ c.ranges.n.fits c.decimal-count.ensures.1.0 in (
       c.append.ensures.0 ∙ ap (λ (s : List ℕ). append_reply a.self (length s)) e,
       c.append.ensures.1 ∙ ap (λ (s : List ℕ). put s a.self.used.0 a.page.now) e,
     )
 
-pub append-number-spec : {M : Type 1} → statement M
-append-number-spec = tie.close (tie.spec (λ c κs. search rules) (λ c. search rules) (λ c. search rules) (λ c κs. search rules) returns)
+pub append_number_spec : {M : Type 1} → statement M
+append_number_spec = tie.close (tie.spec (λ c κs. search rules) (λ c. search rules) (λ c. search rules) (λ c κs. search rules) returns)
