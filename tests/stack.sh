@@ -1,6 +1,6 @@
 #!/usr/bin/env bash
 # The stack of the unit check, measured in the optimised code that C links, and its answers beside those of a plain check in C that keeps a padded copy of
-# the data. All of it is for x86-64, built with the kit's own compiler; on another processor it runs under the kit's emulator.
+# the data. All of it is for x86-64, built with the kit's own compiler.
 set -u
 cd "$(dirname "${BASH_SOURCE[0]}")/.." || exit 1
 work=$(mktemp -d) || exit 1
@@ -12,14 +12,12 @@ fail() {
 }
 
 guide=$(rt doc) || fail "the Rattle kit's rt is needed, and not found"
-kit=$(dirname "$(dirname "$guide")")/on/$(uname -m)
+kit=$(dirname "$guide")
 tools=$kit/toolchain
 clang=$tools/bin/clang
 [ -x "$clang" ] || fail 'the kit has no compiler'
-emulator=$tools/bin/qemu-x86_64
-[ -x "$emulator" ] || emulator=''
 
-rt staticlib exports >"$work/said" 2>&1 || { cat "$work/said"; fail 'exports was not built'; }
+tools/staticlib >"$work/said" 2>&1 || { cat "$work/said"; fail 'exports was not built'; }
 archive=target/staticlib/libexports.a
 "$tools/bin/ld.lld" -shared --no-undefined --whole-archive "$archive" -o "$work/alone" || fail 'exports needs something else linked'
 
@@ -33,7 +31,7 @@ run() { # NAME
     compile "$1"
     "$kit/bin/rattle-link" --target x86_64-unknown-linux-gnu --toolchain "$tools" -o "$work/$1" "$work/$1.o" "$work/cases.o" "$work/padded.o" \
         "$archive" 2>"$work/said" || { cat "$work/said"; fail "$1 was not linked"; }
-    ${emulator:+"$emulator"} "$tools/lib/ld-linux-x86-64.so.2" --library-path "$tools/lib" "$work/$1" || fail "$1: status $?"
+    "$tools/lib/ld-linux-x86-64.so.2" --library-path "$tools/lib" "$work/$1" || fail "$1: status $?"
 }
 
 compile cases
