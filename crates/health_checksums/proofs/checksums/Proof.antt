@@ -19,33 +19,29 @@ use Rattle.health_checksums.proofs.checksums.Tie as tie
 accepted-long : (p : List ℕ) {v : ℕ} → v ≡ verdict (checksums_causes p) → v ≡ 0 → length p ≡ 32
 accepted-long p e z = judged-long (not (eqb (type_of_packet p) 8)) p e z
 
-returns : tie.Need-returns
+returns : tie.Need-returns-then-checksums_refusal-ne0
 unfolding checksums_reply
-returns c = refused _ _ c.before.checksums-refusal.ensures c.if1.true
+returns c = refused _ _ c.checksums_refusal.ensures c.if-checksums_refusal-ne0.true
 
-pages-requires : tie.Need-pages-requires
+pages-requires : tie.Need-pages-first-requires
 pages-requires c κs =
-    let judged = c.before in
-    omega (arith, accepted-long judged.before.before.args.packet.now judged.checksums-refusal.ensures c.if1.false)
+    omega (arith, accepted-long c.args.packet.now c.checksums_refusal.ensures c.if-checksums_refusal-ne0.false)
 
-pages-requires-2 : tie.Need-pages-requires-2
+pages-requires-2 : tie.Need-pages-second-requires
 pages-requires-2 c κs =
-    let judged = c.before.before in
-    omega (arith, accepted-long judged.before.before.args.packet.now judged.checksums-refusal.ensures c.before.if1.false)
+    omega (arith, accepted-long c.args.packet.now c.checksums_refusal.ensures c.if-checksums_refusal-ne0.false)
 
-pages-requires-3 : tie.Need-pages-requires-3
+pages-requires-3 : tie.Need-pages-third-requires
 pages-requires-3 c κs =
-    let judged = c.before.before.before in
-    omega (arith, accepted-long judged.before.before.args.packet.now judged.checksums-refusal.ensures c.before.before.if1.false)
+    omega (arith, accepted-long c.args.packet.now c.checksums_refusal.ensures c.if-checksums_refusal-ne0.false)
 
-returns-2 : tie.Need-returns-2
+returns-2 : tie.Need-returns
 unfolding checksums_reply
 returns-2 c =
-    let tested = c.before.before.before in
-    given _ _ tested.before.checksums-refusal.ensures tested.if1.false (cc)
+    given _ _ c.checksums_refusal.ensures c.if-checksums_refusal-ne0.false (cc)
 
-pub checksums-spec : {M : Type 1} → statement M
-checksums-spec =
+pub checksums_spec : {M : Type 1} → statement M
+checksums_spec =
     tie.close
     (tie.spec
     (λ c κs. search rules)

@@ -6,5 +6,5 @@ use Rattle.health_checksums.proofs.checksums_refusal.Tie as tie
 returns : tie.Need-returns
 returns c = cc
 
-pub checksums-refusal-spec : {M : Type 1} → statement M
-checksums-refusal-spec = tie.close (tie.spec (λ c κs. search rules) (λ c κs. search rules) returns)
+pub checksums_refusal_spec : {M : Type 1} → statement M
+checksums_refusal_spec = tie.close (tie.spec (λ c κs. search rules) (λ c κs. search rules) returns)

@@ -4,7 +4,7 @@ use Rattle.health_last.proofs.ahead.Statement.{statement}
 use Rattle.health_last.proofs.ahead.Tie as tie
 
 returns : tie.Need-returns
-returns c = omega (arith, c.before.ranges.science.fits, c.before.ranges.health.fits, c.wrapping-sub-u16.type-inv, c.wrapping-sub-u16.ensures)
+returns c = omega (arith, c.ranges.science.fits, c.ranges.health.fits, c.wrapping_sub_u16.type_inv, c.wrapping_sub_u16.ensures)
 
-pub ahead-spec : {M : Type 1} → statement M
-ahead-spec = tie.close (tie.spec (λ c. search rules) returns)
+pub ahead_spec : {M : Type 1} → statement M
+ahead_spec = tie.close (tie.spec (λ c. search rules) returns)

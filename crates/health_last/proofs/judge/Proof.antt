@@ -8,11 +8,10 @@ use Rattle.health_last.proofs.judge.Tie as tie
 
 returns : tie.Need-returns
 returns c =
-    let asked = c.before.before in
-    let a = asked.before.before.before.before.before.args in
-    let lengths = ap (λ (b : Bool). b || not (health_length (length a.health.now))) asked.too_long.ensures in
-    c.cause2.ensures
-    ∙ cause-by-parts {b = not (asked_type a.packet-type)} wrong_argument refl (c.before.cause.ensures ∙ cause-by-parts wrong_length lengths refl)
+    let a = c.args in
+    let lengths = ap (λ (b : Bool). b || not (health_length (length a.health.now))) c.too_long.ensures in
+    c.cause-2.ensures
+    ∙ cause-by-parts {b = not (asked_type a.packet_type)} wrong_argument refl (c.cause.ensures ∙ cause-by-parts wrong_length lengths refl)
 
-pub judge-spec : {M : Type 1} → statement M
-judge-spec = tie.close (tie.spec (λ c. search rules) (λ c κs. search rules) (λ c κs. search rules) (λ c κs. search rules) returns)
+pub judge_spec : {M : Type 1} → statement M
+judge_spec = tie.close (tie.spec (λ c. search rules) (λ c κs. search rules) (λ c κs. search rules) (λ c κs. search rules) returns)

@@ -4,30 +4,25 @@ use Rattle.health_last.proofs.Placed.{arguments-refused, none-refused, found-sho
 use Rattle.health_last.proofs.last_place.Statement.{statement}
 use Rattle.health_last.proofs.last_place.Tie as tie
 
-returns : tie.Need-returns
+returns : tie.Need-returns-then-verdict-ne0
 returns c =
-    let judged = c.before.before in
-    let a = judged.before.before.before.args in
-    c.refused.ensures ∙ arguments-refused a.sync a.science.now a.packet-type a.health.now judged.judge.ensures c.before.if1.true
+    let a = c.args in
+    c.refused.ensures ∙ arguments-refused a.sync a.science.now a.packet_type a.health.now c.judge-verdict.ensures c.if-verdict-ne0.true
 
-returns-2 : tie.Need-returns-2
+returns-2 : tie.Need-returns-then-place-eq0
 returns-2 c =
-    let shown = c.before.before.before in
-    let tested = shown.before in
-    let a = tested.before.before.before.before.args in
-    c.refused2.ensures
-    ∙ none-refused a.sync a.science.now a.packet-type a.health.now tested.before.judge.ensures tested.if1.false
-    shown.newest.ensures c.before.if2.true
+    let a = c.args in
+    c.refused-then-place-eq0.ensures
+    ∙ none-refused a.sync a.science.now a.packet_type a.health.now c.judge-verdict.ensures c.if-verdict-ne0.false
+    c.newest-place.ensures c.if-place-eq0.true
 
-returns-3 : tie.Need-returns-3
+returns-3 : tie.Need-returns
 returns-3 c =
-    let shown = c.before.before in
-    let tested = shown.before in
-    let a = tested.before.before.before.before.args in
-    found-shown a.sync a.science.now a.packet-type a.health.now tested.before.judge.ensures tested.if1.false
-    shown.newest.ensures c.if2.false
+    let a = c.args in
+    found-shown a.sync a.science.now a.packet_type a.health.now c.judge-verdict.ensures c.if-verdict-ne0.false
+    c.newest-place.ensures c.if-place-eq0.false
 
-pub last-place-spec : {M : Type 1} → statement M
-last-place-spec =
+pub last_place_spec : {M : Type 1} → statement M
+last_place_spec =
     tie.close
     (tie.spec (λ c κs. search rules) (λ c κs. search rules) returns (λ c κs. search rules) (λ c κs. search rules) returns-2 returns-3)

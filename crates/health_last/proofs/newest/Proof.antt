@@ -6,31 +6,27 @@ use Rattle.health_last.proofs.Placed.{found_within, compared}
 use Rattle.health_last.proofs.newest.Statement.{statement}
 use Rattle.health_last.proofs.newest.Tie as tie
 
-time-at-requires : tie.Need-time-at-requires
+time-at-requires : tie.Need-time_at-science_time-requires
 time-at-requires c κs =
-    let found = c.before.before in
-    let a = found.before.before.before.args in
-    found_within a.packet-type a.science.now (science_places a.sync a.science.now) found.in-science.ensures.0
+    let a = c.args in
+    found_within a.packet_type a.science.now (science_places a.sync a.science.now) c.in_science-marked.ensures.0
 
-time-at-requires-2 : tie.Need-time-at-requires-2
+time-at-requires-2 : tie.Need-time_at-health_time-requires
 unfolding sound_of wanted
 time-at-requires-2 c κs =
-    let a = c.before.before.before.before.before.before.args in
-    found_within a.packet-type a.health.now (health_places a.health.now) c.before.in_row.ensures
+    let a = c.args in
+    found_within a.packet_type a.health.now (health_places a.health.now) c.in_row-in_health.ensures
 
 returns : tie.Need-returns
 unfolding sound_of wanted
 returns c =
-    let timed = c.before.before in
-    let in_row = timed.before.before in
-    let in-science = in_row.before.before in
-    let a = in-science.before.before.before.args in
-    compared a.sync a.science.now a.packet-type a.health.now in-science.in-science.ensures.0 in-science.in-science.ensures.1
-    in_row.in_row.ensures
-    timed.before.time-at.ensures timed.time-at2.ensures c.before.newer.ensures c.choose.ensures
+    let a = c.args in
+    compared a.sync a.science.now a.packet_type a.health.now c.in_science-marked.ensures.0 c.in_science-marked.ensures.1
+    c.in_row-in_health.ensures
+    c.time_at-science_time.ensures c.time_at-health_time.ensures c.newer-newer.ensures c.choose.ensures
 
-pub newest-spec : {M : Type 1} → statement M
-newest-spec =
+pub newest_spec : {M : Type 1} → statement M
+newest_spec =
     tie.close
     (tie.spec
     (λ c κs. search rules)

@@ -5,8 +5,8 @@ use Rattle.health_last.proofs.packet_at.Statement.{statement}
 use Rattle.health_last.proofs.packet_at.Tie as tie
 
 returns : tie.Need-returns
-returns c = let a = c.before.before.args in ap (λ (n : ℕ). take n (drop a.at.0 a.words.now)) (add-sub_cancel_left a.at.0 32)
+returns c = let a = c.args in ap (λ (n : ℕ). take n (drop a.at.0 a.words.now)) (add-sub_cancel_left a.at.0 32)
 
-pub packet-at-spec : {M : Type 1} → statement M
-packet-at-spec =
+pub packet_at_spec : {M : Type 1} → statement M
+packet_at_spec =
     tie.close (tie.spec (λ c. search rules) (λ c. search rules) (λ c. search rules) (λ c. search rules) (λ c. search rules) returns)

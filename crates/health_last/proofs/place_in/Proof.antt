@@ -5,17 +5,17 @@ use Rattle.health_last.specs.Last.{place_in}
 use Rattle.health_last.proofs.place_in.Statement.{statement}
 use Rattle.health_last.proofs.place_in.Tie as tie
 
-returns : tie.Need-returns
+returns : tie.Need-returns-in-At
 unfolding place_in
 returns c =
-    let a = c.before.before.before.args in
-    ap (λ (s : Sought). place_in a.recording s a.end) (sym c.before.found.given.1)
+    let a = c.args in
+    ap (λ (s : Sought). place_in a.recording s a.end) (sym c.in-At.is)
 
-returns-2 : tie.Need-returns-2
+returns-2 : tie.Need-returns-in-Nowhere
 unfolding place_in
 returns-2 c =
-    let a = c.before.before.before.args in
-    c.refused.ensures ∙ ap (λ (s : Sought). place_in a.recording s a.end) (sym c.before.enum_told.given.1)
+    let a = c.args in
+    c.refused.ensures ∙ ap (λ (s : Sought). place_in a.recording s a.end) (sym c.in-Nowhere.is)
 
-pub place-in-spec : {M : Type 1} → statement M
-place-in-spec = tie.close (tie.spec (λ c. search rules) (λ c. search rules) (λ c. search rules) returns returns-2)
+pub place_in_spec : {M : Type 1} → statement M
+place_in_spec = tie.close (tie.spec (λ c. search rules) (λ c. search rules) (λ c. search rules) returns returns-2)

@@ -8,25 +8,21 @@ use Rattle.health_last.proofs.time_at.Tie as tie
 time-word : (ws : List ℕ) (p : ℕ) → packet_time (take 32 (drop p ws)) ≡ get_or ws (p + 2) 0
 time-word ws p = get_or-take 32 (drop p ws) 2 0 (lit< tt) ∙ get_or-drop p ws 2 0
 
-add-t6 : tie.Need-overflow-add-t6
+add-t6 : tie.Need-overflow_add-at
 add-t6 c =
-    let found = c.before.before.before in
-    let within = found.before.before.before.requires found.found.given.0.0 found.found.given.1 in
+    let within = c.requires c.in-At.at c.in-At.is in
     omega (arith, within)
 
-returns : tie.Need-returns
+returns : tie.Need-returns-in-At
 unfolding time_at
 returns c =
-    let found = c.before.before.before.before in
-    let start = found.before.before.before in
-    let ws = start.args.words.now in
-    c.word-at.ensures ∙ sym (time-word ws _) ∙ ap (time_at ws) (sym found.found.given.1)
+    let ws = c.args.words.now in
+    c.word_at.ensures ∙ sym (time-word ws _) ∙ ap (time_at ws) (sym c.in-At.is)
 
-returns-2 : tie.Need-returns-2
+returns-2 : tie.Need-returns-in-Nowhere
 unfolding time_at
 returns-2 c =
-    let start = c.before.before.before in
-    ap (time_at start.args.words.now) (sym c.enum_told.given.1)
+    ap (time_at c.args.words.now) (sym c.in-Nowhere.is)
 
-pub time-at-spec : {M : Type 1} → statement M
-time-at-spec = tie.close (tie.spec (λ c. search rules) add-t6 (λ c. search rules) (λ c. search rules) returns returns-2)
+pub time_at_spec : {M : Type 1} → statement M
+time_at_spec = tie.close (tie.spec (λ c. search rules) add-t6 (λ c. search rules) (λ c. search rules) returns returns-2)

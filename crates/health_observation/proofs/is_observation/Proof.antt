@@ -8,5 +8,5 @@ returns : tie.Need-returns
 unfolding is_observation
 returns c = search rules
 
-pub is-observation-spec : {M : Type 1} → statement M
-is-observation-spec = tie.close (tie.spec returns)
+pub is_observation_spec : {M : Type 1} → statement M
+is_observation_spec = tie.close (tie.spec returns)

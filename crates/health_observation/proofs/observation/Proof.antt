@@ -7,19 +7,19 @@ use Rattle.health_observation.proofs.Judged.{accepted-observation}
 use Rattle.health_observation.proofs.observation.Statement.{statement}
 use Rattle.health_observation.proofs.observation.Tie as tie
 
-returns : tie.Need-returns
+returns : tie.Need-returns-then-verdict-ne0
 unfolding observation_reply
-returns c = c.refused.ensures ∙ refused _ _ c.before.before.observation-verdict.ensures c.before.if1.true
+returns c = c.refused.ensures ∙ refused _ _ c.observation_verdict-verdict.ensures c.if-verdict-ne0.true
 
-observation-fields-requires : tie.Need-observation-fields-requires
-observation-fields-requires c κs = accepted-observation c.before.before.before.args.packet.now c.before.observation-verdict.ensures c.if1.false
+observation-fields-requires : tie.Need-observation_fields-requires
+observation-fields-requires c κs = accepted-observation c.args.packet.now c.observation_verdict-verdict.ensures c.if-verdict-ne0.false
 
-returns-2 : tie.Need-returns-2
+returns-2 : tie.Need-returns
 unfolding observation_reply
-returns-2 c = given _ _ c.before.before.observation-verdict.ensures c.before.if1.false c.observation-fields.ensures
+returns-2 c = given _ _ c.observation_verdict-verdict.ensures c.if-verdict-ne0.false c.observation_fields.ensures
 
-pub observation-spec : {M : Type 1} → statement M
-observation-spec =
+pub observation_spec : {M : Type 1} → statement M
+observation_spec =
     tie.close
     (tie.spec
     (λ c κs. search rules)

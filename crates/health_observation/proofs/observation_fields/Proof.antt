@@ -11,35 +11,17 @@ use Rattle.health_observation.proofs.observation_fields.Tie as tie
 
 returns : tie.Need-returns
 returns c =
-    let st-asap = c.before in
-    let ff-led-en = st-asap.before in
-    let flat-en = ff-led-en.before in
-    let rice-dt = flat-en.before in
-    let rice-en = rice-dt.before in
-    let mode = rice-en.before in
-    let exposure = mode.before.before in
-    let period = exposure.before in
-    let frame = period.before in
-    let time = frame.before in
-    let crc = time.before in
-    let type-word = crc.before in
-    let bins = type-word.before.before in
-    let others = bins.before.before.before.before in
-    let flags = others.before.before.before in
-    let word = flags.before in
-    let times = word.before in
-    let start = times.before.before in
-    let p = start.args.packet.now in
-    let long = start.requires.0 in
+    let p = c.args.packet.now in
+    let long = c.requires.0 in
     words-make-observation p
-    type-word.word-at4.ensures crc.word-at5.ensures time.word-at6.ensures frame.word-at7.ensures
-    (period.high.ensures ∙ ap high_byte times.word-at.ensures) (exposure.low.ensures ∙ ap low_byte times.word-at.ensures) word.word-at2.ensures
-    flags.word-at3.ensures c.word-at8.ensures (mode.Mode-of.ensures ∙ ap mode_of mode.before.high2.ensures)
-    rice-en.flag.ensures rice-dt.flag2.ensures flat-en.flag3.ensures ff-led-en.flag4.ensures st-asap.flag5.ensures
-    (fills-part 8 8 p _ (omega (arith, long)) refl others.put-words.ensures) (fills 16 p _ (omega (arith, long)) bins.put-words2.ensures)
+    c.word_at.ensures c.word_at-2.ensures c.word_at-3.ensures c.word_at-4.ensures
+    (c.high.ensures ∙ ap high_byte c.word_at-times.ensures) (c.low.ensures ∙ ap low_byte c.word_at-times.ensures) c.word_at-mode_word.ensures
+    c.word_at-flags.ensures c.word_at-5.ensures (c.mode_of.ensures ∙ ap mode_of c.high-2.ensures)
+    c.flag.ensures c.flag-2.ensures c.flag-3.ensures c.flag-4.ensures c.flag-5.ensures
+    (fills-part 8 8 p _ (omega (arith, long)) refl c.put_words.ensures) (fills 16 p _ (omega (arith, long)) c.put_words-2.ensures)
 
-pub observation-fields-spec : {M : Type 1} → statement M
-observation-fields-spec =
+pub observation_fields_spec : {M : Type 1} → statement M
+observation_fields_spec =
     tie.close
     (tie.spec
     (λ c κs. search rules)

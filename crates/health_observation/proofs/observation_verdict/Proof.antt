@@ -6,8 +6,8 @@ use Rattle.health_observation.proofs.observation_verdict.Tie as tie
 returns : tie.Need-returns
 returns c = cc
 
-pub observation-verdict-spec : {M : Type 1} → statement M
-observation-verdict-spec =
+pub observation_verdict_spec : {M : Type 1} → statement M
+observation_verdict_spec =
     tie.close
     (tie.spec
     (λ c κs. search rules)

@@ -6,5 +6,5 @@ use Rattle.health_upsets.proofs.last_filled.Tie as tie
 returns : tie.Need-returns
 returns c = cc
 
-pub last-filled-spec : {M : Type 1} → statement M
-last-filled-spec = tie.close (tie.spec (λ c κs. search rules) (λ c κs. search rules) (λ c. search rules) returns)
+pub last_filled_spec : {M : Type 1} → statement M
+last_filled_spec = tie.close (tie.spec (λ c κs. search rules) (λ c κs. search rules) (λ c. search rules) returns)

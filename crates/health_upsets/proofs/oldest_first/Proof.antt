@@ -6,8 +6,8 @@ use Rattle.health_upsets.proofs.oldest_first.Tie as tie
 returns : tie.Need-returns
 returns c = cc
 
-pub oldest-first-spec : {M : Type 1} → statement M
-oldest-first-spec =
+pub oldest_first_spec : {M : Type 1} → statement M
+oldest_first_spec =
     tie.close
     (tie.spec
     (λ c κs. search rules)

@@ -6,8 +6,8 @@ use Rattle.health_upsets.proofs.upset_after.Tie as tie
 returns : tie.Need-returns
 returns c = cc
 
-pub upset-after-spec : {M : Type 1} → statement M
-upset-after-spec =
+pub upset_after_spec : {M : Type 1} → statement M
+upset_after_spec =
     tie.close
     (tie.spec
     (λ c. search rules)

@@ -6,6 +6,6 @@ use Rattle.health_upsets.proofs.upset_verdict.Tie as tie
 returns : tie.Need-returns
 returns c = cc
 
-pub upset-verdict-spec : {M : Type 1} → statement M
-upset-verdict-spec =
+pub upset_verdict_spec : {M : Type 1} → statement M
+upset_verdict_spec =
     tie.close (tie.spec (λ c κs. search rules) (λ c κs. search rules) (λ c κs. search rules) returns)

@@ -19,24 +19,22 @@ use Rattle.health_upsets.proofs.upsets.Tie as tie
 last-in-table : (p : List ℕ) {v : ℕ} → v ≡ verdict (upsets_causes p) → v ≡ 0 → last_filled p ≤ 8
 last-in-table p e z = leb-true (last_filled p) 8 (and_right (eqb (type_of_packet p) 10) (leb (last_filled p) 8) (judged-own (is_upsets p) p e z))
 
-returns : tie.Need-returns
+returns : tie.Need-returns-then-verdict-ne0
 unfolding upsets_reply
-returns c = c.refused.ensures ∙ refused _ _ c.before.before.upset-verdict.ensures c.before.if1.true
+returns c = c.refused.ensures ∙ refused _ _ c.upset_verdict-verdict.ensures c.if-verdict-ne0.true
 
-oldest-first-requires : tie.Need-oldest-first-requires
+oldest-first-requires : tie.Need-oldest_first-requires
 oldest-first-requires c κs =
-    let judged = c.before.before.before in
-    let last = last-in-table judged.before.before.args.packet.now judged.upset-verdict.ensures c.before.before.if1.false in
-    omega (arith, last, c.before.last-filled.ensures)
+    let last = last-in-table c.args.packet.now c.upset_verdict-verdict.ensures c.if-verdict-ne0.false in
+    omega (arith, last, c.last_filled-last.ensures)
 
-returns-2 : tie.Need-returns-2
+returns-2 : tie.Need-returns
 unfolding upsets_reply
 returns-2 c =
-    let tested = c.before.before.before in
-    given _ _ tested.before.upset-verdict.ensures tested.if1.false (cc)
+    given _ _ c.upset_verdict-verdict.ensures c.if-verdict-ne0.false (cc)
 
-pub upsets-spec : {M : Type 1} → statement M
-upsets-spec =
+pub upsets_spec : {M : Type 1} → statement M
+upsets_spec =
     tie.close
     (tie.spec
     (λ c κs. search rules)

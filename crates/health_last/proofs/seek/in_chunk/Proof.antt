@@ -7,20 +7,19 @@ use Rattle.health_last.proofs.seek.Seeking.{chunk-last}
 use Rattle.health_last.proofs.seek.in_chunk.Statement.{statement}
 use Rattle.health_last.proofs.seek.in_chunk.Tie as tie
 
-returns : tie.Need-returns
+returns : tie.Need-returns-then-kind_of-ne1
 unfolding last_where
 returns c =
-    let a = c.before.before.before.args in
-    sym (ap (last_where (wanted a.words.now a.packet-type a.any)) (no-packets a.chunk (λ e. c.if1.true (c.before.kind-of.ensures ∙ e))))
+    let a = c.args in
+    sym (ap (last_where (wanted a.words.now a.packet_type a.any)) (no-packets a.chunk (λ e. c.if-kind_of-ne1.true (c.kind_of.ensures ∙ e))))
 
-returns-2 : tie.Need-returns-2
+returns-2 : tie.Need-returns
 returns-2 c =
-    let tested = c.before.before.before.before.before.before in
-    let a = tested.before.before.before.args in
-    chunk-last a.chunk (wanted a.words.now a.packet-type a.any) (sym tested.before.kind-of.ensures ∙ tested.if1.false)
-    c.before.before.before.size-of.ensures c.in_row.ensures
+    let a = c.args in
+    chunk-last a.chunk (wanted a.words.now a.packet_type a.any) (sym c.kind_of.ensures ∙ c.if-kind_of-ne1.false)
+    c.size_of.ensures c.in_row.ensures
 
-pub in-chunk-spec : {M : Type 1} → statement M
-in-chunk-spec =
+pub in_chunk_spec : {M : Type 1} → statement M
+in_chunk_spec =
     tie.close
     (tie.spec (λ c κs. search rules) returns (λ c. search rules) (λ c κs. search rules) (λ c. search rules) (λ c κs. search rules) returns-2)

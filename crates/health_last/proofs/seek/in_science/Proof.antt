@@ -6,36 +6,35 @@ use Rattle.health_last.specs.Seek.{wanted, Decides, Decided}
 use Rattle.health_last.proofs.seek.in_science.Statement.{statement}
 use Rattle.health_last.proofs.seek.in_science.Tie as tie
 
-returns : tie.Need-returns
+returns : tie.Need-returns-in_default
 unfolding science_end
 returns c =
-    let a = c.before.before.before.before.args in
-    let none = subst (Decided a.sync a.words.now a.packet-type) c.enum_told.given.1 c.before.before.last-holder.ensures in
+    let a = c.args in
+    let none = subst (Decided a.sync a.words.now a.packet_type) c.in_default.is c.last_holder-last.ensures in
     (sym none, sym (ap (science_end a.sync a.words.now) none))
 
 -- the chunk in hand decides
-decides : (c : tie.After-known-told)
-    → (let a = c.before.before.before.before.before.args in Decides a.sync a.words.now a.packet-type c.before.last.given.0.0)
+decides : (c : tie.In-Chunk)
+    → (let a = c.args in Decides a.sync a.words.now a.packet_type c.in-Chunk.holder)
 decides c =
-    let a = c.before.before.before.before.before.args in
-    subst (Decided a.sync a.words.now a.packet-type) c.before.last.given.1 c.before.before.before.last-holder.ensures
+    let a = c.args in
+    subst (Decided a.sync a.words.now a.packet_type) c.in-Chunk.is c.last_holder-last.ensures
 
-in-chunk-requires : tie.Need-in-chunk-requires
+in-chunk-requires : tie.Need-in_chunk-found-requires
 in-chunk-requires c κs = (decides c).within
 
-returns-2 : tie.Need-returns-2
+returns-2 : tie.Need-returns-in-At
 unfolding sound_of wanted
 returns-2 c =
-    let looked = c.before.before in
-    let there = c.enum-told2.given.1 in
-    let answer = (decides looked.before).answers c.enum-told2.given.0.0 (sym looked.in-chunk.ensures ∙ there) in
+    let there = c.in-At.is in
+    let answer = (decides c.before.before).answers c.in-At.field-0 (sym c.in_chunk-found.ensures ∙ there) in
     (there ∙ answer.0, answer.1)
 
-returns-3 : tie.Need-returns-3
-returns-3 c = c.in-chunks.ensures
+returns-3 : tie.Need-returns-in-Nowhere
+returns-3 c = c.in_chunks.ensures
 
-pub in-science-spec : {M : Type 1} → statement M
-in-science-spec =
+pub in_science_spec : {M : Type 1} → statement M
+in_science_spec =
     tie.close
     (tie.spec
     (λ c κs. search rules)

@@ -6,26 +6,26 @@ use Rattle.health_last.specs.Seek.{wanted}
 use Rattle.health_last.proofs.seek.is_of.Statement.{statement}
 use Rattle.health_last.proofs.seek.is_of.Tie as tie
 
-returns : tie.Need-returns
+returns : tie.Need-returns-then-words-place
 unfolding wanted
 returns c =
-    let a = c.before.before.before.args in
-    sym (untyped a.packet-type a.words.now a.at.0 c.if1.true _)
+    let a = c.args in
+    sym (untyped a.packet_type a.words.now a.at.0 c.if-words-place.true _)
 
-returns-2 : tie.Need-returns-2
+returns-2 : tie.Need-returns-then-any
 unfolding wanted
 returns-2 c =
-    let a = c.before.before.before.before.args in
+    let a = c.args in
     let sound = sound_packet (packet_at a.words.now a.at.0) in
-    sym (typed a.packet-type a.words.now a.at.0 c.before.if1.false _ ∙ ap (λ (b : Bool). b || sound) c.if2.true)
+    sym (typed a.packet_type a.words.now a.at.0 c.if-words-place.false _ ∙ ap (λ (b : Bool). b || sound) c.if-any.true)
 
-returns-3 : tie.Need-returns-3
+returns-3 : tie.Need-returns
 unfolding wanted
 returns-3 c =
-    let a = c.before.before.before.before.before.args in
+    let a = c.args in
     let sound = sound_packet (packet_at a.words.now a.at.0) in
-    c.sound-at.ensures
-    ∙ sym (typed a.packet-type a.words.now a.at.0 c.before.before.if1.false _ ∙ ap (λ (b : Bool). b || sound) c.before.if2.false)
+    c.sound_at.ensures
+    ∙ sym (typed a.packet_type a.words.now a.at.0 c.if-words-place.false _ ∙ ap (λ (b : Bool). b || sound) c.if-any.false)
 
-pub is-of-spec : {M : Type 1} → statement M
-is-of-spec = tie.close (tie.spec (λ c. search rules) (λ c. search rules) returns returns-2 (λ c κs. search rules) returns-3)
+pub is_of_spec : {M : Type 1} → statement M
+is_of_spec = tie.close (tie.spec (λ c. search rules) (λ c. search rules) returns returns-2 (λ c κs. search rules) returns-3)

@@ -5,60 +5,53 @@ use Rattle.health_last.proofs.seek.Seeking.{Held, none-held, chunk-held, chunk-p
 use Rattle.health_last.proofs.seek.last_holder.Statement.{statement}
 use Rattle.health_last.proofs.seek.last_holder.Tie as tie
 
-abbrev invariant-loop : tie.invariant-loop
-invariant-loop words sync t last₀ at₀ last at = Held sync t words at.0 last
+abbrev invariant-loop-chunk : tie.invariant-loop-chunk
+invariant-loop-chunk words sync t last₀ at₀ last at = Held sync t words at.0 last
 
-abbrev decreases-loop : tie.decreases-loop
-decreases-loop words sync t last₀ at₀ last at = length words - at.0
+abbrev decreases-loop-chunk : tie.decreases-loop-chunk
+decreases-loop-chunk words sync t last₀ at₀ last at = length words - at.0
 
-loop-holds : tie.Need-loop-init invariant-loop decreases-loop
+loop-holds : tie.Need-loop-chunk-init invariant-loop-chunk decreases-loop-chunk
 loop-holds c = none-held _ _ _
 
-returns : tie.Need-returns invariant-loop decreases-loop
+returns : tie.Need-returns-in_default invariant-loop-chunk decreases-loop-chunk
 returns c =
-    let l = c.before.before.before in
-    let a = l.before.before.args in
-    all_held a.sync a.packet-type a.words.now l.loop.last l.loop.invariant
-    (ended a.sync a.words.now l.loop.at.0 (sym c.before.before.next.ensures ∙ c.enum_told.given.1))
+    let a = c.args in
+    all_held a.sync a.packet_type a.words.now c.loop-chunk.last c.loop-chunk.invariant
+    (ended a.sync a.words.now c.loop-chunk.at.0 (sym c.next-found.ensures ∙ c.in_default.is))
 
 -- the chunk that was found
-step : (c : tie.After-known-told invariant-loop decreases-loop)
-    → (let l = c.before.before.before.before in
-    Next l.before.before.args.sync l.before.before.args.words.now l.loop.at.0 c.before.found.given.0.0 c.before.found.given.0.1.0.0)
+step : (c : tie.In-Chunk invariant-loop-chunk decreases-loop-chunk)
+    → (Next c.args.sync c.args.words.now c.loop-chunk.at.0 c.in-Chunk.chunk c.in-Chunk.next.0)
 step c =
-    let l = c.before.before.before.before in
-    stepped l.before.before.args.sync l.before.before.args.words.now l.loop.at.0 c.before.found.given.0.0 c.before.found.given.0.1.0
-    (sym c.before.before.before.next.ensures ∙ c.before.found.given.1)
+    stepped c.args.sync c.args.words.now c.loop-chunk.at.0 c.in-Chunk.chunk c.in-Chunk.next
+    (sym c.next-found.ensures ∙ c.in-Chunk.is)
 
-in-chunk-requires : tie.Need-in-chunk-requires invariant-loop decreases-loop
+in-chunk-requires : tie.Need-in_chunk-here-requires invariant-loop-chunk decreases-loop-chunk
 in-chunk-requires c κs = omega (arith, (step c).within, (step c).end)
 
-loop-less : tie.Need-loop-smaller invariant-loop decreases-loop
-loop-less c = let k = c.before.before.before in omega (arith, (step k).ahead, (step k).within, (step k).end)
+loop-less : tie.Need-loop-chunk-smaller-in-At invariant-loop-chunk decreases-loop-chunk
+loop-less c = omega (arith, (step c.before.before).ahead, (step c.before.before).within, (step c.before.before).end)
 
-loop-again : tie.Need-loop-preserved invariant-loop decreases-loop
+loop-again : tie.Need-loop-chunk-preserved-in-At invariant-loop-chunk decreases-loop-chunk
 loop-again c =
-    let k = c.before.before.before in
-    let l = k.before.before.before.before in
-    let a = l.before.before.args in
-    chunk-held a.sync a.packet-type a.words.now l.loop.invariant (step k)
+    let a = c.args in
+    chunk-held a.sync a.packet_type a.words.now c.loop-chunk.invariant (step c.before.before)
 
-loop-less-2 : tie.Need-loop-smaller-2 invariant-loop decreases-loop
-loop-less-2 c = let k = c.before.before.before in omega (arith, (step k).ahead, (step k).within, (step k).end)
+loop-less-2 : tie.Need-loop-chunk-smaller invariant-loop-chunk decreases-loop-chunk
+loop-less-2 c = omega (arith, (step c.before.before).ahead, (step c.before.before).within, (step c.before.before).end)
 
-loop-again-2 : tie.Need-loop-preserved-2 invariant-loop decreases-loop
+loop-again-2 : tie.Need-loop-chunk-preserved invariant-loop-chunk decreases-loop-chunk
 loop-again-2 c =
-    let k = c.before.before.before in
-    let l = k.before.before.before.before in
-    let a = l.before.before.args in
-    chunk-passed a.sync a.packet-type a.words.now l.loop.invariant (step k) (sym c.before.before.in-chunk.ensures ∙ c.enum-told3.given.1)
+    let a = c.args in
+    chunk-passed a.sync a.packet_type a.words.now c.loop-chunk.invariant (step c.before.before) (sym c.in_chunk-here.ensures ∙ c.in_default-here.is)
 
-pub last-holder-spec : {M : Type 1} → statement M
-last-holder-spec =
+pub last_holder_spec : {M : Type 1} → statement M
+last_holder_spec =
     tie.close
     (tie.spec
-    invariant-loop
-    decreases-loop
+    invariant-loop-chunk
+    decreases-loop-chunk
     loop-holds
     (λ c κs. search rules)
     (λ c. search rules)
