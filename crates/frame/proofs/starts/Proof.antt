@@ -8,7 +8,7 @@ use Rattle.frame.proofs.starts.Statement.{statement}
 use Rattle.frame.proofs.starts.Tie as tie
 
 returns : tie.Need-returns
-returns c = ap₂ (λ (k m : ℕ). eqb k 0 && leb 1 m) c.before.kind-of.ensures c.camera-of.ensures
+returns c = ap₂ (λ (k m : ℕ). eqb k 0 && leb 1 m) c.kind_of.ensures c.camera_of.ensures
 
-pub starts-spec : {M : Type 1} → statement M
-starts-spec = tie.close (tie.spec (λ c κs. search rules) (λ c κs. search rules) returns)
+pub starts_spec : {M : Type 1} → statement M
+starts_spec = tie.close (tie.spec (λ c κs. search rules) (λ c κs. search rules) returns)

@@ -27,7 +27,7 @@ module _ (s : tie.Start) where
   part = take (length ws - s.args.place.0) (drop s.args.place.0 ws)
 
   starts-there : starts_frame s.args.sync part ≡ true
-  starts-there = ap (starts_frame s.args.sync) (to_end s.args.place.0 ws) ∙ s.pre
+  starts-there = ap (starts_frame s.args.sync) (to_end s.args.place.0 ws) ∙ s.requires
 
   part_length : length part ≡ length ws - s.args.place.0
   part_length = ap length (to_end s.args.place.0 ws) ∙ length-drop s.args.place.0 ws
@@ -35,61 +35,57 @@ module _ (s : tie.Start) where
   within : s.args.place.0 + 2 < length ws
   within = omega (arith, longer-than-header s.args.sync part starts-there, part_length)
 
-mul-from : tie.Need-overflow-mul-from
+mul-from : tie.Need-offset_bounds-words-at
 mul-from c = omega (arith, within c.before)
 
-sub-from : tie.Need-overflow-sub-from
+sub-from : tie.Need-slice_bounds-from-count
 sub-from c = omega (arith, within c.before)
 
-part-from-start : tie.Need-slice-bounds-from-start
+part-from-start : tie.Need-slice_bounds-from-start
 part-from-start c = let w = within c.before in search rules
 
-measure-requires : tie.Need-measure-requires
+measure-requires : tie.Need-measure-reach-requires
 measure-requires c κs = starts-there c.before.before
 
-shared-slice-read-camera-of : tie.Need-shared-slice-read-camera-of
+shared-slice-read-camera-of : tie.Need-bounds-from-1
 shared-slice-read-camera-of c =
-    let s = c.before.before.before.before.before in
-    omega (arith, longer-than-header s.args.sync (part s) (starts-there s))
+    omega (arith, longer-than-header c.args.sync (part c.before.before.before.before.before) (starts-there c.before.before.before.before.before))
 
 -- where the frame ends
-module _ (c : tie.After-measure) where
+module _ (c : tie.After-measure-reach) where
   abbrev s : tie.Start
   s = c.before.before.before
 
-  end-there : c.measure.result.end.0 ≡ frame_words s.args.sync (part s)
-  end-there = ap (λ (r : Reach). r.end.0) c.measure.ensures
+  end-there : c.measure-reach.result.end.0 ≡ frame_words s.args.sync (part s)
+  end-there = ap (λ (r : Reach). r.end.0) c.measure-reach.ensures
 
-  end-within : c.measure.result.end.0 ≤ length (part s)
+  end-within : c.measure-reach.result.end.0 ≤ length (part s)
   end-within = omega (arith, end-there, frame-ends-inside s.args.sync (part s) (starts-there s))
 
-mul-closes : tie.Need-overflow-mul-closes
+mul-closes : tie.Need-offset_bounds-from-end
 mul-closes c = omega (arith, end-within c.before.before.before, part_length (s c.before.before.before))
 
-sub-closes : tie.Need-overflow-sub-closes
+sub-closes : tie.Need-slice_bounds-closes-count
 sub-closes c = end-within c.before.before.before
 
-part-closes-start : tie.Need-slice-bounds-closes-start
+part-closes-start : tie.Need-slice_bounds-closes-start
 part-closes-start c = let w = end-within c.before.before.before in search rules
 
-add-past : tie.Need-overflow-add-past
+add-past : tie.Need-overflow_add-past
 add-past c =
-    let m = c.before.before.before.before.before.before.before in
-    omega (arith, end-within m, part_length (s m), within (s m))
+    omega (arith, end-within c.before.before.before.before.before.before.before, part_length (s c.before.before.before.before.before.before.before), within (s c.before.before.before.before.before.before.before))
 
 returns : tie.Need-returns
 returns c =
-    let k = c.before.before in
-    let m = k.before.before.before.before.before in
-    let a = (s m).args in
+    let a = (s c.before.before.before.before.before.before.before).args in
     ap₂ (λ (d : Description) (n : ℕ). Piece.Frame a.place d (record { 0 = a.place.0 + n }))
-    (described-by-reach a.sync (part (s m)) (starts-there (s m)) _ _ _ _ _ m.measure.ensures k.before.before.camera-of.ensures k.closes.ensures
-    c.before.is-chunk.ensures c.is-at-end.ensures
-    ∙ ap (described a.sync) (to_end a.place.0 (ws (s m))))
-    (end-there m ∙ ap (frame_words a.sync) (to_end a.place.0 (ws (s m))))
+    (described-by-reach a.sync (part (s c.before.before.before.before.before.before.before)) (starts-there (s c.before.before.before.before.before.before.before)) _ _ _ _ _ c.measure-reach.ensures c.camera_of-camera.ensures c.closes-closing.ensures
+    c.is_chunk.ensures c.is_at_end.ensures
+    ∙ ap (described a.sync) (to_end a.place.0 (ws (s c.before.before.before.before.before.before.before))))
+    (end-there c.before.before.before.before.before.before.before ∙ ap (frame_words a.sync) (to_end a.place.0 (ws (s c.before.before.before.before.before.before.before))))
 
-pub frame-there-spec : {M : Type 1} → statement M
-frame-there-spec =
+pub frame_there_spec : {M : Type 1} → statement M
+frame_there_spec =
     tie.close
     (tie.spec
     mul-from

@@ -12,76 +12,63 @@ use Rattle.frame.proofs.Stepping.{no-piece, health-passed, frame-next, stray-nex
 use Rattle.frame.proofs.pieces.next.Statement.{statement}
 use Rattle.frame.proofs.pieces.next.Tie as tie
 
-abbrev invariant-loop : tie.invariant-loop
-invariant-loop words sync at₀ at = next_piece sync words at ≡ next_piece sync words at₀
+abbrev invariant-loop-entry : tie.invariant-loop-entry
+invariant-loop-entry words sync at₀ at = next_piece sync words at ≡ next_piece sync words at₀
 
-abbrev decreases-loop : tie.decreases-loop
-decreases-loop words sync at₀ at = length words - at
+abbrev decreases-loop-entry : tie.decreases-loop-entry
+decreases-loop-entry words sync at₀ at = length words - at
 
-loop-holds : tie.Need-loop-init invariant-loop decreases-loop
+loop-holds : tie.Need-loop-entry-init invariant-loop-entry decreases-loop-entry
 loop-holds c = refl
 
-module _ (c : tie.After-known-told invariant-loop decreases-loop) where
-  abbrev l : tie.At-loop invariant-loop decreases-loop
-  l = c.before.before.before.before
-
-  abbrev a : tie.Start invariant-loop decreases-loop
-  a = l.before.before
-
+module _ (c : tie.In-Chunk invariant-loop-entry decreases-loop-entry) where
   -- the chunk that was found
   abbrev e : Entry
-  e = c.before.found.given.0.0
+  e = c.in-Chunk.entry
 
   -- and the place past it
   abbrev q : ℕ
-  q = c.before.found.given.0.1.0.0
+  q = c.in-Chunk.next.0
 
-  step : Next a.args.sync a.args.words.now l.loop.at e q
+  step : Next c.args.sync c.args.words.now c.loop-entry.at e q
   step =
-      stepped a.args.sync a.args.words.now l.loop.at e _
-      (sym c.before.before.before.next.ensures ∙ c.before.found.given.1)
+      stepped c.args.sync c.args.words.now c.loop-entry.at e _
+      (sym c.next-found.ensures ∙ c.in-Chunk.is)
 
-frame-there-requires : tie.Need-frame-there-requires invariant-loop decreases-loop
+frame-there-requires : tie.Need-frame_there-requires invariant-loop-entry decreases-loop-entry
 frame-there-requires c κs =
-    let k = c.before.before.before.before.before in
-    frame-starts (a k).args.sync (a k).args.words.now (l k).loop.at (e k) (q k) (step k) (sym c.before.starts.ensures ∙ c.if2.true)
+    frame-starts c.args.sync c.args.words.now c.loop-entry.at (e c.before.before.before.before.before) (q c.before.before.before.before.before) (step c.before.before.before.before.before) (sym c.starts.ensures ∙ c.if-starts.true)
 
-returns : tie.Need-returns invariant-loop decreases-loop
+returns : tie.Need-returns-then-starts invariant-loop-entry decreases-loop-entry
 returns c =
-    let k = c.before.before.before.before.before.before in
-    c.frame-there.ensures
-    ∙ sym (frame-next (a k).args.sync (a k).args.words.now (l k).loop.at (e k) (q k) (step k) (sym c.before.before.starts.ensures ∙ c.before.if2.true))
-    ∙ (l k).loop.invariant
+    c.frame_there.ensures
+    ∙ sym (frame-next c.args.sync c.args.words.now c.loop-entry.at (e c.before.before.before.before.before.before) (q c.before.before.before.before.before.before) (step c.before.before.before.before.before.before) (sym c.starts.ensures ∙ c.if-starts.true))
+    ∙ c.loop-entry.invariant
 
-returns-2 : tie.Need-returns-2 invariant-loop decreases-loop
+returns-2 : tie.Need-returns-then-kind_of-eq0 invariant-loop-entry decreases-loop-entry
 returns-2 c =
-    let i = c.before.before in
-    let k = i.before.before.before in
-    ap (λ (n : ℕ). Piece.Stray (e k) (record { 0 = n })) (step k).end
-    ∙ sym (stray-next (a k).args.sync (a k).args.words.now (l k).loop.at (e k) (q k) (step k) (sym i.before.kind-of.ensures ∙ i.if1.true) (sym c.before.starts.ensures ∙ c.if2.false))
-    ∙ (l k).loop.invariant
+    ap (λ (n : ℕ). Piece.Stray (e c.before.before.before.before.before) (record { 0 = n })) (step c.before.before.before.before.before).end
+    ∙ sym (stray-next c.args.sync c.args.words.now c.loop-entry.at (e c.before.before.before.before.before) (q c.before.before.before.before.before) (step c.before.before.before.before.before) (sym c.kind_of.ensures ∙ c.if-kind_of-eq0.true) (sym c.starts.ensures ∙ c.if-starts.false))
+    ∙ c.loop-entry.invariant
 
-loop-less : tie.Need-loop-smaller invariant-loop decreases-loop
-loop-less c = let k = c.before.before.before in omega (arith, (step k).end, (step k).ahead, (step k).within)
+loop-less : tie.Need-loop-entry-smaller invariant-loop-entry decreases-loop-entry
+loop-less c = omega (arith, (step c.before.before.before).end, (step c.before.before.before).ahead, (step c.before.before.before).within)
 
-loop-again : tie.Need-loop-preserved invariant-loop decreases-loop
+loop-again : tie.Need-loop-entry-preserved invariant-loop-entry decreases-loop-entry
 loop-again c =
-    let k = c.before.before.before in
-    sym (health-passed (a k).args.sync (a k).args.words.now (l k).loop.at (e k) (q k) (step k) (λ z. c.if1.false (c.before.kind-of.ensures ∙ z)))
-    ∙ (l k).loop.invariant
+    sym (health-passed c.args.sync c.args.words.now c.loop-entry.at (e c.before.before.before) (q c.before.before.before) (step c.before.before.before) (λ z. c.if-kind_of-eq0.false (c.kind_of.ensures ∙ z)))
+    ∙ c.loop-entry.invariant
 
-returns-3 : tie.Need-returns-3 invariant-loop decreases-loop
+returns-3 : tie.Need-returns-in-End invariant-loop-entry decreases-loop-entry
 returns-3 c =
-    let i = c.before.before.before in
-    let s = i.before.before in
-    sym (no-piece s.args.sync s.args.words.now i.loop.at (sym c.before.before.next.ensures ∙ c.enum_told.given.1)) ∙ i.loop.invariant
+    sym (no-piece c.args.sync c.args.words.now c.loop-entry.at (sym c.next-found.ensures ∙ c.in-End.is)) ∙ c.loop-entry.invariant
 
-pub next-spec : {M : Type 1} → statement M
-next-spec =
+pub next_spec : {M : Type 1} → statement M
+next_spec =
     tie.close
     (tie.spec
-    invariant-loop
-    decreases-loop
+    invariant-loop-entry
+    decreases-loop-entry
     loop-holds
     (λ c κs. search rules)
     (λ c. search rules)

@@ -9,7 +9,6 @@ use Rattle.chunk.specs.declared.Check.{Check}
 use Rattle.chunk.specs.Header.{kind, check_at}
 use Rattle.health.specs.Packet.{sound_packet, type_of_packet}
 use borrow.Author.Rules.{rules}
-use borrow.Author.Tests.{not-true, not-false}
 use Rattle.frame.specs.Walk.{closes_frame}
 use Rattle.frame.proofs.shape.closes.Statement.{statement}
 use Rattle.frame.proofs.shape.closes.Tie as tie
@@ -26,7 +25,7 @@ left true s false e = absurd (true≢false e)
 left false s t e = absurd (true≢false e)
 
 -- what they say of the words
-module _ (c : tie.After-word-at2) where
+module _ (c : tie.After-word_at-2) where
   abbrev a : tie.Start
   a = c.before.before.before.before
 
@@ -39,11 +38,11 @@ module _ (c : tie.After-word-at2) where
   abbrev typed : Bool
   typed = eqb (type_of_packet (drop 2 a.args.words.now)) (3 + a.args.camera)
 
-  looked : (b : Bool) → not (eqb c.before.kind-of.result 1 && eqb c.word-at2.result (3 + a.args.camera)) ≡ b → not (health && typed) ≡ b
+  looked : (b : Bool) → not (eqb c.kind_of-health.result 1 && eqb c.word_at-2.result (3 + a.args.camera)) ≡ b → not (health && typed) ≡ b
   looked b t =
       ap₂ (λ (x y : ℕ). not (eqb x 1 && eqb y (3 + a.args.camera)))
-      (sym (c.before.kind-of.ensures ∙ ap kind c.before.before.word-at.ensures))
-      (sym (c.word-at2.ensures ∙ sym (get_or-drop 2 a.args.words.now 0 0)))
+      (sym (c.kind_of-health.ensures ∙ ap kind c.word_at.ensures))
+      (sym (c.word_at-2.ensures ∙ sym (get_or-drop 2 a.args.words.now 0 0)))
       ∙ t
 
   told : (b : Bool) → health && (sound && typed) ≡ b
@@ -51,23 +50,22 @@ module _ (c : tie.After-word-at2) where
   told b e = ap (λ (x : Bool). cond x (check_at a.args.sync a.args.words.now) Check.NotAChunk) (sym e)
 
 -- the packet's type is the camera's: whether it is sound
-packet : (c : tie.After-sound-at) (b : Bool) → c.sound-at.result ≡ b
-    → (let t = c.before.before in health t && (sound t && typed t) ≡ b)
-packet c b s = let t = c.before.before in left (health t) (sound t) (typed t) (looked t false c.before.if1.false) ∙ sym c.sound-at.ensures ∙ s
+packet : (c : tie.After-sound_at) (b : Bool) → c.sound_at.result ≡ b
+    → (health c.before.before && (sound c.before.before && typed c.before.before) ≡ b)
+packet c b s = left (health c.before.before) (sound c.before.before) (typed c.before.before) (looked c.before.before false c.if-not-health-observed.false-raw) ∙ sym c.sound_at.ensures ∙ s
 
-returns : tie.Need-returns
-returns c = let t = c.before in told t false (refused (health t) (sound t) (typed t) (looked t true c.if1.true))
+returns : tie.Need-returns-then-not-health-observed
+returns c = told c.before false (refused (health c.before) (sound c.before) (typed c.before) (looked c.before true c.if-not-health-observed.true-raw))
 
-returns-2 : tie.Need-returns-2
-returns-2 c = told c.before.before.before false (packet c.before false (not-true _ c.if2.true))
+returns-2 : tie.Need-returns-then-not-sound_at
+returns-2 c = told c.before.before.before false (packet c.before false c.if-not-sound_at.true)
 
-returns-3 : tie.Need-returns-3
+returns-3 : tie.Need-returns
 returns-3 c =
-    let i = c.before in
-    c.check.ensures ∙ told i.before.before.before true (packet i.before true (not-false _ i.if2.false))
+    c.check.ensures ∙ told c.before.before.before.before true (packet c.before.before true c.if-not-sound_at.false)
 
-pub closes-spec : {M : Type 1} → statement M
-closes-spec =
+pub closes_spec : {M : Type 1} → statement M
+closes_spec =
     tie.close
     (tie.spec
     (λ c κs. search rules)

@@ -7,7 +7,7 @@ use Rattle.frame.proofs.shape.confirmed.Statement.{statement}
 use Rattle.frame.proofs.shape.confirmed.Tie as tie
 
 returns : tie.Need-returns
-returns c = c.is-chunk.ensures ∙ ap is_chunk c.before.check.ensures ∙ check-chunk _ _
+returns c = c.is_chunk.ensures ∙ ap is_chunk c.check.ensures ∙ check-chunk _ _
 
-pub confirmed-spec : {M : Type 1} → statement M
-confirmed-spec = tie.close (tie.spec (λ c κs. search rules) (λ c κs. search rules) returns)
+pub confirmed_spec : {M : Type 1} → statement M
+confirmed_spec = tie.close (tie.spec (λ c κs. search rules) (λ c κs. search rules) returns)

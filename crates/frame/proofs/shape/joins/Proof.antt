@@ -6,5 +6,5 @@ use Rattle.frame.proofs.shape.joins.Tie as tie
 returns : tie.Need-returns
 returns c = cc
 
-pub joins-spec : {M : Type 1} → statement M
-joins-spec = tie.close (tie.spec (λ c κs. search rules) (λ c κs. search rules) (λ c κs. search rules) (λ c κs. search rules) returns)
+pub joins_spec : {M : Type 1} → statement M
+joins_spec = tie.close (tie.spec (λ c κs. search rules) (λ c κs. search rules) (λ c κs. search rules) (λ c κs. search rules) returns)

@@ -13,88 +13,77 @@ use Rattle.frame.proofs.Walking.{Walked, longer-than-header, first-walked, joini
 use Rattle.frame.proofs.shape.measure.Statement.{statement}
 use Rattle.frame.proofs.shape.measure.Tie as tie
 
-abbrev invariant-loop : tie.invariant-loop
-invariant-loop words sync size₀ chunks₀ end₀ length₀ size chunks end length = Walked sync words size chunks end length
+abbrev invariant-loop-size : tie.invariant-loop-size
+invariant-loop-size words sync size₀ chunks₀ end₀ length₀ size chunks end length = Walked sync words size chunks end length
 
-abbrev decreases-loop : tie.decreases-loop
-decreases-loop words sync size₀ chunks₀ end₀ length₀ size chunks end length = ListN.length words - end
+abbrev decreases-loop-size : tie.decreases-loop-size
+decreases-loop-size words sync size₀ chunks₀ end₀ length₀ size chunks end length = ListN.length words - end
 
-shared-slice-read-size-of : tie.Need-shared-slice-read-size-of invariant-loop decreases-loop
-shared-slice-read-size-of c = let l = longer-than-header _ _ c.before.before.requires in omega arith
+shared-slice-read-size-of : tie.Need-bounds-words-1 invariant-loop-size decreases-loop-size
+shared-slice-read-size-of c = let l = longer-than-header _ _ c.requires in omega arith
 
-add-end : tie.Need-overflow-add-end invariant-loop decreases-loop
-add-end c = omega (arith, c.before.size-of.ensures)
+add-end : tie.Need-overflow_add-end invariant-loop-size decreases-loop-size
+add-end c = omega (arith, c.size_of-size.ensures)
 
-loop-holds : tie.Need-loop-init invariant-loop decreases-loop
+loop-holds : tie.Need-loop-size-init invariant-loop-size decreases-loop-size
 loop-holds c =
-    let a = c.before.before.before.before.before in
-    first-walked a.args.sync a.args.words.now a.requires _ _ _ c.before.before.size-of.ensures refl c.data-words.ensures
+    first-walked c.args.sync c.args.words.now c.requires _ _ _ c.size_of-size.ensures refl c.data_words-length.ensures
 
 -- the loop's test is whether a continuation joins
-module _ (c : tie.After-joins invariant-loop decreases-loop) where
-  abbrev l : tie.At-loop invariant-loop decreases-loop
-  l = c.before.before.before
-
-  abbrev a : tie.Start invariant-loop decreases-loop
-  a = l.before.before.before.before.before.before
-
+module _ (c : tie.After-joins invariant-loop-size decreases-loop-size) where
   abbrev joined : Bool
-  joined = eqb (l.loop.size % 264) 0 && joins_frame a.args.sync (ListN.drop l.loop.end a.args.words.now)
+  joined = eqb (c.loop-size.size % 264) 0 && joins_frame c.args.sync (ListN.drop c.loop-size.end c.args.words.now)
 
-  tested : (b : Bool) → eqb (l.loop.size % 264) 0 && c.joins.result ≡ b → joined ≡ b
+  tested : (b : Bool) → eqb (c.loop-size.size % 264) 0 && c.joins.result ≡ b → joined ≡ b
   tested b t =
-      ap (λ (x : Bool). eqb (l.loop.size % 264) 0 && x)
-      (sym (c.joins.ensures ∙ ap (joins_frame a.args.sync) (to_end l.loop.end a.args.words.now)))
+      ap (λ (x : Bool). eqb (c.loop-size.size % 264) 0 && x)
+      (sym (c.joins.ensures ∙ ap (joins_frame c.args.sync) (to_end c.loop-size.end c.args.words.now)))
       ∙ t
 
 -- one that joins lies within the words
-inside : (c : tie.Then1 invariant-loop decreases-loop) → ((l c.before).loop.end + 1 < ListN.length (a c.before).args.words.now)
-    × ((l c.before).loop.end + 2 + header.size (ListN.get_or (a c.before).args.words.now ((l c.before).loop.end + 1) 0)
-    ≤ ListN.length (a c.before).args.words.now)
+inside : (c : tie.In-loop-size invariant-loop-size decreases-loop-size) → (c.loop-size.end + 1 < ListN.length c.args.words.now)
+    × (c.loop-size.end + 2 + header.size (ListN.get_or c.args.words.now (c.loop-size.end + 1) 0)
+    ≤ ListN.length c.args.words.now)
 inside c =
-    let t = c.before in
-    joining-fits (a t).args.sync (a t).args.words.now (a t).requires _ _ _ _ (l t).loop.invariant (tested t true c.if1.true)
+    joining-fits c.args.sync c.args.words.now c.requires _ _ _ _ c.loop-size.invariant (tested c.before true c.loop-size-test.true)
 
-add-size-of : tie.Need-overflow-add-size-of invariant-loop decreases-loop
+add-size-of : tie.Need-overflow_add-end-in-loop-size invariant-loop-size decreases-loop-size
 add-size-of c = omega (arith, (inside c).0)
 
-mul-size-of : tie.Need-overflow-mul-size-of invariant-loop decreases-loop
+mul-size-of : tie.Need-offset_bounds-words-end-in-loop-size invariant-loop-size decreases-loop-size
 mul-size-of c = omega (arith, (inside c).0)
 
-shared-slice-read-size-of-2 : tie.Need-shared-slice-read-size-of-2 invariant-loop decreases-loop
+shared-slice-read-size-of-2 : tie.Need-bounds-words-end invariant-loop-size decreases-loop-size
 shared-slice-read-size-of-2 c = omega (arith, (inside c.before).0)
 
-add-end-2 : tie.Need-overflow-add-end-2 invariant-loop decreases-loop
-add-end-2 c = omega (arith, (inside c.before.before.before).1, c.before.size-of2.ensures)
+add-end-2 : tie.Need-overflow_add-end-in-loop-size-2 invariant-loop-size decreases-loop-size
+add-end-2 c = omega (arith, (inside c.before.before.before).1, c.size_of-size-in-loop-size.ensures)
 
-add-end-3 : tie.Need-overflow-add-end-3 invariant-loop decreases-loop
-add-end-3 c = omega (arith, (inside c.before.before.before).1, c.before.size-of2.ensures)
+add-end-3 : tie.Need-overflow_add-end-in-loop-size-3 invariant-loop-size decreases-loop-size
+add-end-3 c = omega (arith, (inside c.before.before.before).1, c.size_of-size-in-loop-size.ensures)
 
-add-length : tie.Need-overflow-add-length invariant-loop decreases-loop
+add-length : tie.Need-overflow_add-length invariant-loop-size decreases-loop-size
 add-length c =
-    let t = c.before.before.before.before.before in
-    omega (arith, (l t.before).loop.inv.short, (inside t).1, c.before.data-words2.ensures, c.before.before.before.size-of2.ensures)
+    omega (arith, c.loop-size.invariant.short, (inside c.before.before.before.before.before).1, c.data_words-length-in-loop-size.ensures, c.size_of-size-in-loop-size.ensures)
 
-loop-less : tie.Need-loop-smaller invariant-loop decreases-loop
-loop-less c = omega (arith, (inside c.before.before.before.before.before).1, c.before.before.before.size-of2.ensures)
+loop-less : tie.Need-loop-size-smaller invariant-loop-size decreases-loop-size
+loop-less c = omega (arith, (inside c.before.before.before.before.before).1, c.size_of-size-in-loop-size.ensures)
 
-loop-again : tie.Need-loop-preserved invariant-loop decreases-loop
+loop-again : tie.Need-loop-size-preserved invariant-loop-size decreases-loop-size
 loop-again c =
-    let t = c.before.before.before.before.before.before in
-    one-more-walked (a t).args.sync (a t).args.words.now (a t).requires _ _ _ _ (l t).loop.invariant _ _ _ _ refl c.before.before.before.size-of2.ensures
-    (tested t true c.before.before.before.before.before.if1.true) refl (ap (λ (n : ℕ). (l t).loop.length + n) c.before.data-words2.ensures)
+    one-more-walked c.args.sync c.args.words.now c.requires _ _ _ _ c.loop-size.invariant _ _ _ _ refl c.size_of-size-in-loop-size.ensures
+    (tested c.before.before.before.before.before.before true c.loop-size-test.true) refl (ap (λ (n : ℕ). c.loop-size.length + n) c.data_words-length-in-loop-size.ensures)
 
-returns : tie.Need-returns invariant-loop decreases-loop
+returns : tie.Need-returns invariant-loop-size decreases-loop-size
 returns c =
-    let t = c.before in
-    all-walked (a t).args.sync (a t).args.words.now (a t).requires _ _ _ _ (l t).loop.invariant (tested t false c.if1.false)
+    all-walked c.args.sync c.args.words.now c.requires _ _ _ _ c.loop-size.invariant (tested c.before false c.loop-size-test.false)
 
-pub measure-spec : {M : Type 1} → statement M
-measure-spec =
+pub measure_spec : {M : Type 1} → statement M
+measure_spec =
     tie.close
     (tie.spec
-    invariant-loop
-    decreases-loop
+    invariant-loop-size
+    decreases-loop-size
     shared-slice-read-size-of
     (λ c κs. search rules)
     add-end
