@@ -6,8 +6,8 @@ use Rattle.chunk_writing.proofs.plan.Tie as tie
 returns : tie.Need-returns
 returns c = cc
 
-pub plan-spec : {M : Type 1} → statement M
-plan-spec =
+pub plan_spec : {M : Type 1} → statement M
+plan_spec =
     tie.close
     (tie.spec
     (λ c. search rules)

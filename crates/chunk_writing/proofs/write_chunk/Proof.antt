@@ -8,27 +8,25 @@ use Rattle.chunk_writing.proofs.write_chunk.Statement.{statement}
 use Rattle.chunk_writing.proofs.write_chunk.Tie as tie
 
 -- what an accepted call was given
-accepted : (c : tie.Else1)
-    → (let a = c.before.before.before.before.before.args in (a.kind ≤ 1) × (a.camera ≤ 3) × (length a.payload.now ≤ 8190))
+accepted : (c : tie.Else-reply-ne0)
+    → (let a = c.args in (a.kind ≤ 1) × (a.camera ≤ 3) × (length a.payload.now ≤ 8190))
 accepted c =
-    let a = c.before.before.before.before.before.args in
-    accepted-bounds a.sync a.kind a.camera a.payload.now a.room.now _ c.before.before.plan.ensures c.if1.false
+    let a = c.args in
+    accepted-bounds a.sync a.kind a.camera a.payload.now a.room.now _ c.plan-reply.ensures c.if-reply-ne0.false
 
-returns : tie.Need-returns
-returns c = (c.before.before.plan.ensures, refused-untouched _ _ _ _ _ _ c.before.before.plan.ensures c.if1.true)
+returns : tie.Need-returns-then-reply-ne0
+returns c = (c.plan-reply.ensures, refused-untouched _ _ _ _ _ _ c.plan-reply.ensures c.if-reply-ne0.true)
 
-cast-header-word : tie.Need-overflow-cast-header-word
+cast-header-word : tie.Need-overflow_cast-payload
 cast-header-word c = record { fits = omega (arith, (accepted c).2) }
 
-returns-2 : tie.Need-returns-2
+returns-2 : tie.Need-returns
 returns-2 c =
-    let j = c.before.before in
-    let h = j.before.before.before in
-    let e = h.before.before.before.plan.ensures in
-    (e, accepted-stored _ _ _ _ _ _ e h.before.if1.false _ h.header-word.ensures _ j.put-joined.ensures)
+    let e = c.plan-reply.ensures in
+    (e, accepted-stored _ _ _ _ _ _ e c.if-reply-ne0.false _ c.header_word.ensures _ c.put_joined.ensures)
 
-pub write-chunk-spec : {M : Type 1} → statement M
-write-chunk-spec =
+pub write_chunk_spec : {M : Type 1} → statement M
+write_chunk_spec =
     tie.close
     (tie.spec
     (λ c κs. search rules)

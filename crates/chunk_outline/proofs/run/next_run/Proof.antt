@@ -6,7 +6,6 @@ use native.Mathlib.Omega.{arith}
 use lib.ListN.{length}
 use lib.Dec.{eqb}
 use borrow.Author.Rules.{rules}
-use borrow.Author.Tests.{not-true, not-false}
 use Rattle.chunk.specs.Header.{kind}
 use Rattle.chunk.proofs.Steps.{Next, stepped, ended}
 use Rattle.chunk_outline.proofs.run.Going.{Going, going-first, run-last, run-parted, run-joined}
