@@ -6,5 +6,5 @@ use Rattle.command_catalogue.proofs.asked_wrong.Tie as tie
 returns : tie.Need-returns
 returns c = refl
 
-pub asked-wrong-spec : {M : Type 1} → statement M
-asked-wrong-spec = tie.close (tie.spec returns)
+pub asked_wrong_spec : {M : Type 1} → statement M
+asked_wrong_spec = tie.close (tie.spec returns)

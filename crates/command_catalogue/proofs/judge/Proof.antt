@@ -6,14 +6,13 @@ use Rattle.command_catalogue.proofs.judge.Tie as tie
 
 returns : tie.Need-returns
 returns c =
-    let a = c.before.before.before.before.before.before.before.before.before.before.before.before.args in
-    let called = c.before.before.before.before.before.before.before.before in
-    verdict-by-parts a.catalogue a.mode a.command-type a.qualifier a.address a.«data» a.further.now called.before.before.look_up.ensures
-    called.before.fields-wrong.ensures called.further-wrong.ensures c.before.before.before.before.before.before.cause.ensures c.before.before.before.before.before.cause2.ensures c.before.before.before.before.cause3.ensures
-    c.before.before.cause4.ensures c.before.asked-wrong.ensures c.cause5.ensures
+    let a = c.args in
+    verdict-by-parts a.catalogue a.mode a.command_type a.qualifier a.address a.«data» a.further.now c.look_up-row.ensures
+    c.fields_wrong-field.ensures c.further_wrong-more.ensures c.cause-last.ensures c.cause.ensures c.cause-others.ensures
+    c.cause-command.ensures c.asked_wrong.ensures c.cause-2.ensures
 
-pub judge-spec : {M : Type 1} → statement M
-judge-spec =
+pub judge_spec : {M : Type 1} → statement M
+judge_spec =
     tie.close
     (tie.spec
     (λ c κs. search rules)

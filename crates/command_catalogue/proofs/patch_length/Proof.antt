@@ -6,7 +6,7 @@ use Rattle.command_catalogue.proofs.patch_length.Statement.{statement}
 use Rattle.command_catalogue.proofs.patch_length.Tie as tie
 
 returns : tie.Need-returns
-returns c = c.either.ensures ∙ patch-lengths c.before.args.catalogue c.before.args.further.0
+returns c = c.either.ensures ∙ patch-lengths c.args.catalogue c.args.further.0
 
-pub patch-length-spec : {M : Type 1} → statement M
-patch-length-spec = tie.close (tie.spec (λ c κs. search rules) returns)
+pub patch_length_spec : {M : Type 1} → statement M
+patch_length_spec = tie.close (tie.spec (λ c κs. search rules) returns)

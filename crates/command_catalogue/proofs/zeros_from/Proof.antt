@@ -8,30 +8,30 @@ use Rattle.command_catalogue.proofs.Judged.{zeros-stop, zeros-turn, zeros-done}
 use Rattle.command_catalogue.proofs.zeros_from.Statement.{statement}
 use Rattle.command_catalogue.proofs.zeros_from.Tie as tie
 
-abbrev invariant-loop : tie.invariant-loop
-invariant-loop bytes from i = zeros (drop i bytes) ≡ zeros (drop from bytes)
+abbrev invariant-loop-i : tie.invariant-loop-i
+invariant-loop-i bytes from i = zeros (drop i bytes) ≡ zeros (drop from bytes)
 
-abbrev decreases-loop : tie.decreases-loop
-decreases-loop bytes from i = length bytes - i
+abbrev decreases-loop-i : tie.decreases-loop-i
+decreases-loop-i bytes from i = length bytes - i
 
-loop-holds : tie.Need-loop-init invariant-loop decreases-loop
+loop-holds : tie.Need-loop-i-init invariant-loop-i decreases-loop-i
 loop-holds c = refl
 
-returns : tie.Need-returns invariant-loop decreases-loop
-returns c = zeros-stop _ _ c.before.before.before.loop.invariant c.before.before.loop-test.true c.if1.true
+returns : tie.Need-returns-then-bytes-i-ne0 invariant-loop-i decreases-loop-i
+returns c = zeros-stop _ _ c.loop-i.invariant c.loop-i-test.true c.if-bytes-i-ne0.true
 
-loop-again : tie.Need-loop-preserved invariant-loop decreases-loop
-loop-again c = zeros-turn _ _ c.before.before.before.loop.invariant c.before.before.loop-test.true c.if1.false
+loop-again : tie.Need-loop-i-preserved invariant-loop-i decreases-loop-i
+loop-again c = zeros-turn _ _ c.loop-i.invariant c.loop-i-test.true c.if-bytes-i-ne0.false
 
-returns-2 : tie.Need-returns-2 invariant-loop decreases-loop
-returns-2 c = zeros-done _ _ c.before.loop.invariant c.loop-test.false
+returns-2 : tie.Need-returns invariant-loop-i decreases-loop-i
+returns-2 c = zeros-done _ _ c.loop-i.invariant c.loop-i-test.false
 
-pub zeros-from-spec : {M : Type 1} → statement M
-zeros-from-spec =
+pub zeros_from_spec : {M : Type 1} → statement M
+zeros_from_spec =
     tie.close
     (tie.spec
-    invariant-loop
-    decreases-loop
+    invariant-loop-i
+    decreases-loop-i
     loop-holds
     (λ c. search rules)
     returns

@@ -5,29 +5,29 @@ use Rattle.command_catalogue.proofs.table.Rows.{dummy-row, test-row, on_row, sub
 use Rattle.command_catalogue.proofs.table.fixed.Statement.{statement}
 use Rattle.command_catalogue.proofs.table.fixed.Tie as tie
 
-returns : tie.Need-returns
-returns c = c.row.ensures ∙ sym (dummy-row _ _ _ _ c.before.if1.true)
+returns : tie.Need-returns-then-command_type
+returns c = c.row.ensures ∙ sym (dummy-row _ _ _ _ c.if-command_type.true)
 
-returns-2 : tie.Need-returns-2
+returns-2 : tie.Need-returns-then-command_type-dcixs
 returns-2 c =
-    let p = c.before.before.before.requires in
-    c.row2.ensures ∙ sym (test-row _ _ _ _ c.before.before.if1.false p.0 p.1 p.2 c.before.if2.true)
+    let p = c.requires in
+    c.row-then-command_type-dcixs.ensures ∙ sym (test-row _ _ _ _ c.if-command_type.false p.0 p.1 p.2 c.if-command_type-dcixs.true)
 
-returns-3 : tie.Need-returns-3
+returns-3 : tie.Need-returns-then-both-command_type
 returns-3 c =
-    let p = c.before.before.before.before.requires in
-    c.row3.ensures ∙ sym (on_row _ _ _ _ c.before.before.before.if1.false p.0 p.1 p.2 c.before.before.if2.false c.before.if3.true)
+    let p = c.requires in
+    c.row-then-both-command_type.ensures ∙ sym (on_row _ _ _ _ c.if-command_type.false p.0 p.1 p.2 c.if-command_type-dcixs.false c.if-both-command_type.true)
 
-returns-4 : tie.Need-returns-4
-returns-4 c = c.row4.ensures ∙ sym (submode-row _ _ _ _ c.before.either.ensures c.before.before.if4.true)
+returns-4 : tie.Need-returns-then-command_type-eq9
+returns-4 c = c.row-then-command_type-eq9.ensures ∙ sym (submode-row _ _ _ _ c.either.ensures c.if-command_type-eq9.true)
 
-returns-5 : tie.Need-returns-5
+returns-5 : tie.Need-returns
 returns-5 c =
-    let p = c.before.before.before.before.requires in
-    sym (no_row _ _ _ _ c.before.before.before.if1.false p.0 p.1 p.2 c.before.before.if2.false c.before.if3.false c.if4.false)
+    let p = c.requires in
+    sym (no_row _ _ _ _ c.if-command_type.false p.0 p.1 p.2 c.if-command_type-dcixs.false c.if-both-command_type.false c.if-command_type-eq9.false)
 
-pub fixed-spec : {M : Type 1} → statement M
-fixed-spec =
+pub fixed_spec : {M : Type 1} → statement M
+fixed_spec =
     tie.close
     (tie.spec
     (λ c κs. search rules)
