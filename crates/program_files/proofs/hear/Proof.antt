@@ -31,13 +31,13 @@ reach n most m r e =
 
 returns : tie.Need-returns
 returns c =
-    let w = c.before.words in
+    let w = c.words-reply in
     let h = reach _ _ _ _ w.ensures.0 in
     let l = ap length w.ensures.1 ∙ room-length _ _ _ in
     (h.0, omega (arith, h.1, l))
 
-pub hear-spec : {M : Type 1} → statement M
-hear-spec =
+pub hear_spec : {M : Type 1} → statement M
+hear_spec =
     tie.close
     (tie.spec
     (λ c κs. search rules)
