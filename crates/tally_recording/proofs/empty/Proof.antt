@@ -6,5 +6,5 @@ use Rattle.tally_recording.proofs.empty.Tie as tie
 returns : tie.Need-returns
 returns c = refl
 
-pub empty-spec : {M : Type 1} → statement M
-empty-spec = tie.close (tie.spec returns)
+pub empty_spec : {M : Type 1} → statement M
+empty_spec = tie.close (tie.spec returns)

@@ -9,27 +9,24 @@ use Rattle.tally_recording.proofs.Answers.{of-refused, of-taken}
 use Rattle.tally_recording.proofs.of.Statement.{statement}
 use Rattle.tally_recording.proofs.of.Tie as tie
 
-returns : tie.Need-returns
+returns : tie.Need-returns-then-too_long
 returns c =
-    let t = c.before in
-    let a = t.before.before.before.args in
-    c.refused.ensures ∙ of-refused a.sync a.recording.now (sym t.before.too_long.ensures ∙ t.if1.true)
+    let a = c.args in
+    c.refused.ensures ∙ of-refused a.sync a.recording.now (sym c.too_long.ensures ∙ c.if-too_long.true)
 
 -- the recording is within the limit
-within : (c : tie.Else1) → too_long c.before.before.before.args.recording.now ≡ false
-within c = sym c.before.too_long.ensures ∙ c.if1.false
+within : (c : tie.Else-too_long) → too_long c.args.recording.now ≡ false
+within c = sym c.too_long.ensures ∙ c.if-too_long.false
 
-cast-words : tie.Need-overflow-cast-t11
+cast-words : tie.Need-overflow_cast-tally
 cast-words c =
-    let e = c.before.before.before.before.before in
-    let a = e.before.before.before.args in
-    record { fits = omega (arith, short a.sync a.recording.now (within e)) }
+    let a = c.args in
+    record { fits = omega (arith, short a.sync a.recording.now (within c.before.before.before.before.before)) }
 
-returns-2 : tie.Need-returns-2
+returns-2 : tie.Need-returns
 returns-2 c =
-    let e = c.before.before.before.before.before in
-    let a = e.before.before.before.args in
-    of-taken a.sync a.recording.now (within e) _ c.before.before.before.before.count.ensures _ c.before.before.before.count2.ensures
+    let a = c.args in
+    of-taken a.sync a.recording.now (within c.before.before.before.before.before) _ c.count-listed.ensures _ c.count-framed.ensures
 
 pub of_spec : {M : Type 1} → statement M
 of_spec =

@@ -6,7 +6,7 @@ use Rattle.tally_recording.proofs.refused.Statement.{statement}
 use Rattle.tally_recording.proofs.refused.Tie as tie
 
 returns : tie.Need-returns
-returns c = ap (counted c.before.args.number) c.empty.ensures
+returns c = ap (counted c.args.number) c.empty.ensures
 
-pub refused-spec : {M : Type 1} → statement M
-refused-spec = tie.close (tie.spec (λ c κs. search rules) returns)
+pub refused_spec : {M : Type 1} → statement M
+refused_spec = tie.close (tie.spec (λ c κs. search rules) returns)

@@ -12,36 +12,35 @@ use Rattle.tally_recording.proofs.Packets.{no-packets-counted}
 use Rattle.tally_recording.proofs.chunks.chunk_packets.Statement.{statement}
 use Rattle.tally_recording.proofs.chunks.chunk_packets.Tie as tie
 
-returns : tie.Need-returns
+returns : tie.Need-returns-then-kind_of-ne1
 returns c =
-    let a = c.before.before.before.args in
-    sym (ap (λ (ps : List ℕ). sums a.packets (packet_numbers a.words.now ps)) (no-packets a.chunk (λ k. c.if1.true (c.before.kind-of.ensures ∙ k)))
+    let a = c.args in
+    sym (ap (λ (ps : List ℕ). sums a.packets (packet_numbers a.words.now ps)) (no-packets a.chunk (λ k. c.if-kind_of-ne1.true (c.kind_of.ensures ∙ k)))
     ∙ no-packets-counted a.words.now a.packets (search rules))
 
 -- the row is the chunk's
-own : (c : tie.After-size-of)
-    → (let a = c.before.before.before.before.before.before.args in
-    packet_places (c.size-of.result.0 / 32) (a.chunk.position.0 + 2) ≡ chunk_places a.chunk)
+own : (c : tie.After-size_of)
+    → (let a = c.args in
+    packet_places (c.size_of.result.0 / 32) (a.chunk.position.0 + 2) ≡ chunk_places a.chunk)
 own c =
-    let e = c.before.before.before in
-    let a = e.before.before.before.args in
-    ap (λ (n : ℕ). packet_places (n / 32) (a.chunk.position.0 + 2)) c.size-of.ensures
-    ∙ sym (chunk-packets a.chunk (sym e.before.kind-of.ensures ∙ e.if1.false))
+    let a = c.args in
+    ap (λ (n : ℕ). packet_places (n / 32) (a.chunk.position.0 + 2)) c.size_of.ensures
+    ∙ sym (chunk-packets a.chunk (sym c.kind_of.ensures ∙ c.if-kind_of-ne1.false))
 
-row-packets-requires : tie.Need-row-packets-requires
+row-packets-requires : tie.Need-row_packets-requires
 row-packets-requires c κs =
-    let s = c.before.before.before.before.before.before.before.before in (
-      omega (arith, s.requires.0, c.before.before.size-of.ensures),
-      ap (λ (ps : List ℕ). any_past (sums s.args.packets (packet_numbers s.args.words.now ps))) (own c.before.before) ∙ s.requires.1,
+    (
+      omega (arith, c.requires.0, c.size_of.ensures),
+      ap (λ (ps : List ℕ). any_past (sums c.args.packets (packet_numbers c.args.words.now ps))) (own c.before.before) ∙ c.requires.1,
     )
 
-returns-2 : tie.Need-returns-2
+returns-2 : tie.Need-returns
 returns-2 c =
-    let a = c.before.before.before.before.before.before.before.before.before.args in
-    c.row-packets.ensures ∙ ap (λ (ps : List ℕ). sums a.packets (packet_numbers a.words.now ps)) (own c.before.before.before)
+    let a = c.args in
+    c.row_packets.ensures ∙ ap (λ (ps : List ℕ). sums a.packets (packet_numbers a.words.now ps)) (own c.before.before.before)
 
-pub chunk-packets-spec : {M : Type 1} → statement M
-chunk-packets-spec =
+pub chunk_packets_spec : {M : Type 1} → statement M
+chunk_packets_spec =
     tie.close
     (tie.spec
     (λ c κs. search rules)

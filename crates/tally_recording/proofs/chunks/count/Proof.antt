@@ -10,122 +10,101 @@ use Rattle.tally_recording.proofs.Gathering.{Gathered, none-gathered, chunk-gath
 use Rattle.tally_recording.proofs.chunks.count.Statement.{statement}
 use Rattle.tally_recording.proofs.chunks.count.Tie as tie
 
-abbrev invariant-loop : tie.invariant-loop
-invariant-loop words sync skipped₀ chunks₀ packets₀ units₀ at₀ skipped chunks packets units at = Gathered sync words skipped chunks packets units at
+abbrev invariant-loop-entry : tie.invariant-loop-entry
+invariant-loop-entry words sync skipped₀ chunks₀ packets₀ units₀ at₀ skipped chunks packets units at = Gathered sync words skipped chunks packets units at
 
-abbrev decreases-loop : tie.decreases-loop
-decreases-loop words sync skipped₀ chunks₀ packets₀ units₀ at₀ skipped chunks packets units at = length words - at
+abbrev decreases-loop-entry : tie.decreases-loop-entry
+decreases-loop-entry words sync skipped₀ chunks₀ packets₀ units₀ at₀ skipped chunks packets units at = length words - at
 
-loop-holds : tie.Need-loop-init invariant-loop decreases-loop
-loop-holds c = none-gathered c.before.args.sync c.before.args.words.now
+loop-holds : tie.Need-loop-entry-init invariant-loop-entry decreases-loop-entry
+loop-holds c = none-gathered c.args.sync c.args.words.now
 
 -- that no chunk was found
-last : (c : tie.After-enum-told invariant-loop decreases-loop)
-    → (let l = c.before.before.before in
-    Last l.before.before.args.sync l.before.before.args.words.now l.loop.at)
+last : (c : tie.In_default invariant-loop-entry decreases-loop-entry)
+    → (Last c.args.sync c.args.words.now c.loop-entry.at)
 last c =
-    let l = c.before.before.before in
-    ended l.before.before.args.sync l.before.before.args.words.now l.loop.at
-    (sym c.before.before.next.ensures ∙ c.enum_told.given.1)
+    ended c.args.sync c.args.words.now c.loop-entry.at
+    (sym c.next-found.ensures ∙ c.in_default.is)
 
-cast-last : tie.Need-overflow-cast-last invariant-loop decreases-loop
+cast-last : tie.Need-overflow_cast-last invariant-loop-entry decreases-loop-entry
 cast-last c =
-    let l = c.before.before.before in
-    let s = l.before.before in
-    record { fits = omega (arith, last_fits s.args.sync s.args.words.now _ _ _ _ _ l.loop.invariant (last c) s.requires) }
+    record { fits = omega (arith, last_fits c.args.sync c.args.words.now _ _ _ _ _ c.loop-entry.invariant (last c) c.requires) }
 
-add-last : tie.Need-overflow-add-t19 invariant-loop decreases-loop
+add-last : tie.Need-overflow_add-result invariant-loop-entry decreases-loop-entry
 add-last c =
-    let l = c.before.before.before in
-    let s = l.before.before in
-    record { fits = omega (arith, last_fits s.args.sync s.args.words.now _ _ _ _ _ l.loop.invariant (last c) s.requires) }
+    record { fits = omega (arith, last_fits c.args.sync c.args.words.now _ _ _ _ _ c.loop-entry.invariant (last c) c.requires) }
 
-returns : tie.Need-returns invariant-loop decreases-loop
+returns : tie.Need-returns-in_default invariant-loop-entry decreases-loop-entry
 returns c =
-    let l = c.before.before.before in
-    let a = l.before.before.args in
-    all-gathered a.sync a.words.now _ _ _ _ _ l.loop.invariant (last c)
+    let a = c.args in
+    all-gathered a.sync a.words.now _ _ _ _ _ c.loop-entry.invariant (last c)
 
 -- the chunk that was found
-step : (c : tie.After-known-told invariant-loop decreases-loop)
-    → (let l = c.before.before.before.before in
-    Next l.before.before.args.sync l.before.before.args.words.now l.loop.at c.before.found.given.0.0 c.before.found.given.0.1.0.0)
+step : (c : tie.In-Chunk invariant-loop-entry decreases-loop-entry)
+    → (Next c.args.sync c.args.words.now c.loop-entry.at c.in-Chunk.entry c.in-Chunk.next.0)
 step c =
-    let l = c.before.before.before.before in
-    stepped l.before.before.args.sync l.before.before.args.words.now l.loop.at c.before.found.given.0.0 c.before.found.given.0.1.0
-    (sym c.before.before.before.next.ensures ∙ c.before.found.given.1)
+    stepped c.args.sync c.args.words.now c.loop-entry.at c.in-Chunk.entry c.in-Chunk.next
+    (sym c.next-found.ensures ∙ c.in-Chunk.is)
 
 -- where it is counted
-few : (c : tie.After-sort-of invariant-loop decreases-loop) → c.sort-of.result < 5
-few c = omega (arith, c.sort-of.ensures, sort-few c.before.before.found.given.0.0.header)
+few : (c : tie.After-sort_of-place invariant-loop-entry decreases-loop-entry) → c.sort_of-place.result < 5
+few c = omega (arith, c.sort_of-place.ensures, sort-few c.in-Chunk.entry.header)
 
 -- what is skipped before it
-gap : (c : tie.After-sort-of invariant-loop decreases-loop)
-    → (let l = c.before.before.before.before.before in l.loop.skipped + (c.before.before.found.given.0.0.position.0 - l.loop.at) ≤ recording_limit)
+gap : (c : tie.After-sort_of-place invariant-loop-entry decreases-loop-entry)
+    → (c.loop-entry.skipped + (c.in-Chunk.entry.position.0 - c.loop-entry.at) ≤ recording_limit)
 gap c =
-    let l = c.before.before.before.before.before in
-    let s = l.before.before in
-    skipped-fits s.args.sync s.args.words.now _ _ _ _ _ l.loop.invariant _ _ (step c.before) s.requires
+    skipped-fits c.args.sync c.args.words.now _ _ _ _ _ c.loop-entry.invariant _ _ (step c.before) c.requires
 
-sub-skipped : tie.Need-overflow-sub-skipped invariant-loop decreases-loop
+sub-skipped : tie.Need-overflow_sub-skipped invariant-loop-entry decreases-loop-entry
 sub-skipped c = (step c.before).ahead
 
-cast-skipped : tie.Need-overflow-cast-skipped invariant-loop decreases-loop
+cast-skipped : tie.Need-overflow_cast-skipped invariant-loop-entry decreases-loop-entry
 cast-skipped c = record { fits = omega (arith, gap c) }
 
-add-skipped : tie.Need-overflow-add-skipped invariant-loop decreases-loop
+add-skipped : tie.Need-overflow_add-skipped invariant-loop-entry decreases-loop-entry
 add-skipped c = record { fits = omega (arith, gap c) }
 
-mul-chunks : tie.Need-overflow-mul-chunks invariant-loop decreases-loop
+mul-chunks : tie.Need-offset_bounds-chunks-place invariant-loop-entry decreases-loop-entry
 mul-chunks c = record { fits = omega (arith, few c) }
 
-array-read-chunks : tie.Need-array-read-chunks invariant-loop decreases-loop
+array-read-chunks : tie.Need-bounds-chunks-place invariant-loop-entry decreases-loop-entry
 array-read-chunks c = few c
 
-add-chunks : tie.Need-overflow-add-chunks invariant-loop decreases-loop
+add-chunks : tie.Need-overflow_add-chunks invariant-loop-entry decreases-loop-entry
 add-chunks c =
-    let l = c.before.before.before.before.before in
-    let s = l.before.before in
-    let fits = sort-fits s.args.sync s.args.words.now _ _ _ _ _ l.loop.invariant _ _ (step c.before) s.requires in
-    record { fits = omega (arith, fits, ap (λ (i : ℕ). get_or l.loop.chunks i 0) c.sort-of.ensures) }
+    let fits = sort-fits c.args.sync c.args.words.now _ _ _ _ _ c.loop-entry.invariant _ _ (step c.before) c.requires in
+    record { fits = omega (arith, fits, ap (λ (i : ℕ). get_or c.loop-entry.chunks i 0) c.sort_of-place.ensures) }
 
-mul-chunks-2 : tie.Need-overflow-mul-chunks-2 invariant-loop decreases-loop
+mul-chunks-2 : tie.Need-offset_bounds-chunks-place-in-loop-entry invariant-loop-entry decreases-loop-entry
 mul-chunks-2 c = record { fits = omega (arith, few c) }
 
-array-write-chunks : tie.Need-array-write-chunks invariant-loop decreases-loop
+array-write-chunks : tie.Need-bounds-chunks-place-in-loop-entry invariant-loop-entry decreases-loop-entry
 array-write-chunks c = few c
 
-chunk-packets-requires : tie.Need-chunk-packets-requires invariant-loop decreases-loop
+chunk-packets-requires : tie.Need-chunk_packets-counted-requires invariant-loop-entry decreases-loop-entry
 chunk-packets-requires c κs =
-    let k = c.before in
-    let l = k.before.before.before.before in
-    let s = l.before.before in
-    (omega (arith, (step k).within, (step k).end), packets-here s.args.sync s.args.words.now _ _ _ _ _ l.loop.invariant _ _ (step k) s.requires)
+    (omega (arith, (step c.before).within, (step c.before).end), packets-here c.args.sync c.args.words.now _ _ _ _ _ c.loop-entry.invariant _ _ (step c.before) c.requires)
 
-chunk-units-requires : tie.Need-chunk-units-requires invariant-loop decreases-loop
+chunk-units-requires : tie.Need-chunk_units-judged-requires invariant-loop-entry decreases-loop-entry
 chunk-units-requires c κs =
-    let k = c.before.before in
-    let l = k.before.before.before.before in
-    let s = l.before.before in
-    (omega (arith, (step k).within, (step k).end), units-here s.args.sync s.args.words.now _ _ _ _ _ l.loop.invariant _ _ (step k) s.requires)
+    (omega (arith, (step c.before.before).within, (step c.before.before).end), units-here c.args.sync c.args.words.now _ _ _ _ _ c.loop-entry.invariant _ _ (step c.before.before) c.requires)
 
-loop-less : tie.Need-loop-smaller invariant-loop decreases-loop
-loop-less c = let k = c.before.before.before in omega (arith, (step k).ahead, (step k).within, (step k).end)
+loop-less : tie.Need-loop-entry-smaller invariant-loop-entry decreases-loop-entry
+loop-less c = omega (arith, (step c.before.before.before).ahead, (step c.before.before.before).within, (step c.before.before.before).end)
 
-loop-again : tie.Need-loop-preserved invariant-loop decreases-loop
+loop-again : tie.Need-loop-entry-preserved invariant-loop-entry decreases-loop-entry
 loop-again c =
-    let k = c.before.before.before in
-    let l = k.before.before.before.before in
-    let a = l.before.before.args in
-    chunk-gathered a.sync a.words.now _ _ _ _ _ l.loop.invariant _ _ (step k) _ c.before.before.sort-of.ensures _ _ c.before.chunk-packets.ensures
-    c.chunk-units.ensures
+    let a = c.args in
+    chunk-gathered a.sync a.words.now _ _ _ _ _ c.loop-entry.invariant _ _ (step c.before.before.before) _ c.sort_of-place.ensures _ _ c.chunk_packets-counted.ensures
+    c.chunk_units-judged.ensures
 
 pub count_spec : {M : Type 1} → statement M
 count_spec =
     tie.close
     (tie.spec
-    invariant-loop
-    decreases-loop
+    invariant-loop-entry
+    decreases-loop-entry
     loop-holds
     (λ c κs. search rules)
     (λ c. search rules)

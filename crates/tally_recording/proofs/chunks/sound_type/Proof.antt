@@ -23,29 +23,29 @@ by-type ws p t s =
 unsound : (ws : List ℕ) (p t : ℕ) → sound_packet (packet_at ws p) ≡ false → sound_of ws t p ≡ false
 unsound ws p t s = by-test (eqb (get_or ws p 0) t) (λ e. own-type t ws p (eqb-true _ _ e) ∙ s) (λ e. other-type t ws p (eqb-false _ _ e))
 
-returns : tie.Need-returns
+returns : tie.Need-returns-then-t-gt15
 returns c =
-    let a = c.before.before.before.args in (
+    let a = c.args in (
       omega arith,
-      λ t l m. other-type t a.words.now a.at.0 (λ e. omega (arith, c.if1.true, c.before.word-at.ensures, e, m)) ∙ sym (ne_eqb 0 t (λ z. omega (arith, z, l))),
+      λ t l m. other-type t a.words.now a.at.0 (λ e. omega (arith, c.if-t-gt15.true, c.word_at-t.ensures, e, m)) ∙ sym (ne_eqb 0 t (λ z. omega (arith, z, l))),
     )
 
-returns-2 : tie.Need-returns-2
+returns-2 : tie.Need-returns-then-sound_at
 returns-2 c =
-    let a = c.before.before.before.before.before.args in (
-      omega (arith, c.before.before.if1.false),
-      λ t l m. by-type a.words.now a.at.0 t (sym c.before.sound-at.ensures ∙ c.if2.true) ∙ ap (λ (w : ℕ). eqb w t) (sym c.before.before.before.word-at.ensures),
+    let a = c.args in (
+      omega (arith, c.if-t-gt15.false),
+      λ t l m. by-type a.words.now a.at.0 t (sym c.sound_at.ensures ∙ c.if-sound_at.true) ∙ ap (λ (w : ℕ). eqb w t) (sym c.word_at-t.ensures),
     )
 
-returns-3 : tie.Need-returns-3
+returns-3 : tie.Need-returns
 returns-3 c =
-    let a = c.before.before.before.before.before.args in (
+    let a = c.args in (
       omega arith,
-      λ t l m. unsound a.words.now a.at.0 t (sym c.before.sound-at.ensures ∙ c.if2.false) ∙ sym (ne_eqb 0 t (λ z. omega (arith, z, l))),
+      λ t l m. unsound a.words.now a.at.0 t (sym c.sound_at.ensures ∙ c.if-sound_at.false) ∙ sym (ne_eqb 0 t (λ z. omega (arith, z, l))),
     )
 
-pub sound-type-spec : {M : Type 1} → statement M
-sound-type-spec =
+pub sound_type_spec : {M : Type 1} → statement M
+sound_type_spec =
     tie.close
     (tie.spec
     (λ c κs. search rules)

@@ -11,94 +11,74 @@ use Rattle.tally_recording.proofs.Framing.{Framing, none-framed, frame-framed, f
 use Rattle.tally_recording.proofs.pieces.count.Statement.{statement}
 use Rattle.tally_recording.proofs.pieces.count.Tie as tie
 
-abbrev invariant-loop : tie.invariant-loop
-invariant-loop words sync complete₀ cut₀ strays₀ at₀ complete cut strays at = Framing sync words complete cut strays at
+abbrev invariant-loop-described : tie.invariant-loop-described
+invariant-loop-described words sync complete₀ cut₀ strays₀ at₀ complete cut strays at = Framing sync words complete cut strays at
 
-abbrev decreases-loop : tie.decreases-loop
-decreases-loop words sync complete₀ cut₀ strays₀ at₀ complete cut strays at = length words - at
+abbrev decreases-loop-described : tie.decreases-loop-described
+decreases-loop-described words sync complete₀ cut₀ strays₀ at₀ complete cut strays at = length words - at
 
-loop-holds : tie.Need-loop-init invariant-loop decreases-loop
-loop-holds c = none-framed c.before.args.sync c.before.args.words.now
+loop-holds : tie.Need-loop-described-init invariant-loop-described decreases-loop-described
+loop-holds c = none-framed c.args.sync c.args.words.now
 
 -- the frame that was found
-frame : (p : tie.After-piece invariant-loop decreases-loop)
-    → (let l = p.before.before.before in
-    let a = l.before.before.args in
-    next_piece a.sync a.words.now l.loop.at ≡ Piece.Frame p.piece.given.0.0 p.piece.given.0.1.0 p.piece.given.0.1.1.0)
-frame p = sym p.before.before.next.ensures ∙ p.piece.given.1
+frame : (p : tie.In-Frame invariant-loop-described decreases-loop-described)
+    → (let a = p.args in
+    next_piece a.sync a.words.now p.loop-described.at ≡ Piece.Frame p.in-Frame.field-0 p.in-Frame.described p.in-Frame.end)
+frame p = sym p.next-piece.ensures ∙ p.in-Frame.is
 
-add-complete : tie.Need-overflow-add-complete invariant-loop decreases-loop
+add-complete : tie.Need-overflow_add-complete invariant-loop-described decreases-loop-described
 add-complete c =
-    let p = c.before.before in
-    let l = p.before.before.before in
-    let s = l.before.before in
-    let fits = frame-fits s.args.sync s.args.words.now _ _ _ _ l.loop.invariant _ _ _ (frame p) c.one-if.result _ c.one-if.ensures refl s.requires in
+    let fits = frame-fits c.args.sync c.args.words.now _ _ _ _ c.loop-described.invariant _ _ _ (frame c.before) c.one_if-complete.result _ c.one_if-complete.ensures refl c.requires in
     record { fits = omega (arith, fits.0) }
 
-add-cut : tie.Need-overflow-add-cut invariant-loop decreases-loop
+add-cut : tie.Need-overflow_add-cut invariant-loop-described decreases-loop-described
 add-cut c =
-    let p = c.before.before.before.before in
-    let l = p.before.before.before in
-    let s = l.before.before in
-    let fits = frame-fits s.args.sync s.args.words.now _ _ _ _ l.loop.invariant _ _ _ (frame p) _ c.one-if2.result refl c.one-if2.ensures s.requires in
+    let fits = frame-fits c.args.sync c.args.words.now _ _ _ _ c.loop-described.invariant _ _ _ (frame c.before.before.before) _ c.one_if-cut.result refl c.one_if-cut.ensures c.requires in
     record { fits = omega (arith, fits.1) }
 
-loop-less : tie.Need-loop-smaller invariant-loop decreases-loop
+loop-less : tie.Need-loop-described-smaller-in-Frame invariant-loop-described decreases-loop-described
 loop-less c =
-    let p = c.before.before.before.before in
-    let l = p.before.before.before in
-    let a = l.before.before.args in
-    let on = ahead a.sync a.words.now l.loop.at _ (sym p.piece.given.1 ∙ p.before.before.next.ensures) in
+    let a = c.args in
+    let on = ahead a.sync a.words.now c.loop-described.at _ (sym c.in-Frame.is ∙ c.next-piece.ensures) in
     omega (arith, on.0, on.1)
 
-loop-again : tie.Need-loop-preserved invariant-loop decreases-loop
+loop-again : tie.Need-loop-described-preserved-in-Frame invariant-loop-described decreases-loop-described
 loop-again c =
-    let p = c.before.before.before.before in
-    let l = p.before.before.before in
-    let a = l.before.before.args in
-    frame-framed a.sync a.words.now _ _ _ _ l.loop.invariant _ _ _ (frame p) _ _ c.before.before.one-if.ensures c.one-if2.ensures
+    let a = c.args in
+    frame-framed a.sync a.words.now _ _ _ _ c.loop-described.invariant _ _ _ (frame c.before.before.before) _ _ c.one_if-complete.ensures c.one_if-cut.ensures
 
 -- the stray that was found
-stray : (p : tie.After-piece2 invariant-loop decreases-loop)
-    → (let l = p.before.before.before in
-    let a = l.before.before.args in
-    next_piece a.sync a.words.now l.loop.at ≡ Piece.Stray p.piece2.given.0.0 p.piece2.given.0.1.0)
-stray p = sym p.before.before.next.ensures ∙ p.piece2.given.1
+stray : (p : tie.In-Stray invariant-loop-described decreases-loop-described)
+    → (let a = p.args in
+    next_piece a.sync a.words.now p.loop-described.at ≡ Piece.Stray p.in-Stray.field-0 p.in-Stray.end)
+stray p = sym p.next-piece.ensures ∙ p.in-Stray.is
 
-add-strays : tie.Need-overflow-add-strays invariant-loop decreases-loop
+add-strays : tie.Need-overflow_add-strays invariant-loop-described decreases-loop-described
 add-strays c =
-    let p = c.before in
-    let l = p.before.before.before in
-    let s = l.before.before in
-    record { fits = omega (arith, stray-fits s.args.sync s.args.words.now _ _ _ _ l.loop.invariant _ _ (stray p) s.requires) }
+    record { fits = omega (arith, stray-fits c.args.sync c.args.words.now _ _ _ _ c.loop-described.invariant _ _ (stray c) c.requires) }
 
-loop-less-2 : tie.Need-loop-smaller-2 invariant-loop decreases-loop
+loop-less-2 : tie.Need-loop-described-smaller invariant-loop-described decreases-loop-described
 loop-less-2 c =
-    let p = c.before in
-    let l = p.before.before.before in
-    let a = l.before.before.args in
-    let on = ahead a.sync a.words.now l.loop.at _ (sym p.piece2.given.1 ∙ p.before.before.next.ensures) in
+    let a = c.args in
+    let on = ahead a.sync a.words.now c.loop-described.at _ (sym c.in-Stray.is ∙ c.next-piece.ensures) in
     omega (arith, on.0, on.1)
 
-loop-again-2 : tie.Need-loop-preserved-2 invariant-loop decreases-loop
+loop-again-2 : tie.Need-loop-described-preserved invariant-loop-described decreases-loop-described
 loop-again-2 c =
-    let p = c.before in
-    let l = p.before.before.before in
-    let a = l.before.before.args in
-    stray-framed a.sync a.words.now _ _ _ _ l.loop.invariant _ _ (stray p)
+    let a = c.args in
+    stray-framed a.sync a.words.now _ _ _ _ c.loop-described.invariant _ _ (stray c)
 
-returns : tie.Need-returns invariant-loop decreases-loop
+returns : tie.Need-returns-in-End invariant-loop-described decreases-loop-described
 returns c =
-    let l = c.before.before.before in
-    let a = l.before.before.args in
-    all-framed a.sync a.words.now _ _ _ _ l.loop.invariant (sym c.before.before.next.ensures ∙ c.enum_told.given.1)
+    let a = c.args in
+    all-framed a.sync a.words.now _ _ _ _ c.loop-described.invariant (sym c.next-piece.ensures ∙ c.in-End.is)
 
 pub count_spec : {M : Type 1} → statement M
 count_spec =
     tie.close
     (tie.spec
-    invariant-loop
-    decreases-loop
+    invariant-loop-described
+    decreases-loop-described
     loop-holds
     (λ c κs. search rules)
     (λ c. search rules)
