@@ -8,38 +8,33 @@ use Rattle.tally_counts.proofs.Answers.{added-length, added-past, added-sums}
 use Rattle.tally_counts.proofs.added.Statement.{statement}
 use Rattle.tally_counts.proofs.added.Tie as tie
 
-rows : (c : tie.After-of) → Rows c.before.before.args.tally
+rows : (c : tie.After-of-one) → Rows c.args.tally
 rows c = record { five = search rules; fifteen = search rules; four = search rules }
 
-returns : tie.Need-returns
+returns : tie.Need-returns-then-one-ne0
 returns c =
-    let k = c.before.before in
-    let a = k.before.before.args in
-    added-length a.sync a.recording.now a.tally _ k.of.ensures c.if1.true
+    let a = c.args in
+    added-length a.sync a.recording.now a.tally _ c.of-one.ensures c.if-one-ne0.true
 
-returns-2 : tie.Need-returns-2
+returns-2 : tie.Need-returns-then-passes
 returns-2 c =
-    let e = c.before.before.before.before.before in
-    let k = e.before.before in
-    let a = k.before.before.args in
+    let a = c.args in
     ap (counted unspecified) c.empty.ensures
-    ∙ added-past a.sync a.recording.now a.tally _ k.of.ensures e.if1.false (rows k) _ _ c.before.before.before.before.numbers.ensures
-    c.before.before.before.numbers2.ensures (sym c.before.before.passes.ensures ∙ c.before.if2.true)
+    ∙ added-past a.sync a.recording.now a.tally _ c.of-one.ensures c.if-one-ne0.false (rows c.before.before.before.before.before.before.before.before) _ _ c.numbers-old.ensures
+    c.numbers-new.ensures (sym c.passes.ensures ∙ c.if-passes.true)
 
 sums-requires : tie.Need-sums-requires
-sums-requires c κs = sym c.before.passes.ensures ∙ c.if2.false
+sums-requires c κs = sym c.passes.ensures ∙ c.if-passes.false
 
-returns-3 : tie.Need-returns-3
+returns-3 : tie.Need-returns
 returns-3 c =
-    let e = c.before.before.before.before.before.before in
-    let k = e.before.before in
-    let a = k.before.before.args in
-    added-sums a.sync a.recording.now a.tally _ k.of.ensures e.if1.false (rows k) _ _ c.before.before.before.before.before.numbers.ensures
-    c.before.before.before.before.numbers2.ensures (sym c.before.before.before.passes.ensures ∙ c.before.before.if2.false)
-    _ c.before.sums.ensures _ c.from-numbers.ensures
+    let a = c.args in
+    added-sums a.sync a.recording.now a.tally _ c.of-one.ensures c.if-one-ne0.false (rows c.before.before.before.before.before.before.before.before.before) _ _ c.numbers-old.ensures
+    c.numbers-new.ensures (sym c.passes.ensures ∙ c.if-passes.false)
+    _ c.sums.ensures _ c.from_numbers.ensures
 
-pub added-spec : {M : Type 1} → statement M
-added-spec =
+pub added_spec : {M : Type 1} → statement M
+added_spec =
     tie.close
     (tie.spec
     (λ c κs. search rules)

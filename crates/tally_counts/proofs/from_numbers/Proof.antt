@@ -10,8 +10,8 @@ returns : tie.Need-returns
 unfolding each tally_from
 returns c = refl
 
-pub from-numbers-spec : {M : Type 1} → statement M
-from-numbers-spec =
+pub from_numbers_spec : {M : Type 1} → statement M
+from_numbers_spec =
     tie.close
     (tie.spec
     (λ c. search rules)

@@ -6,15 +6,15 @@ use borrow.Author.Rules.{rules}
 use Rattle.tally_counts.proofs.numbers.Statement.{statement}
 use Rattle.tally_counts.proofs.numbers.Tie as tie
 
-rows : (c : tie.After-units) → Rows c.before.before.before.args.tally
+rows : (c : tie.After-units-1) → Rows c.args.tally
 rows c = record { five = search rules; fifteen = search rules; four = search rules }
 
 returns : tie.Need-returns
 unfolding each
-returns c = numbers-written c.before.before.before.args.tally (rows c)
+returns c = numbers-written c.args.tally (rows c)
 
-pub numbers-spec : {M : Type 1} → statement M
-numbers-spec =
+pub numbers_spec : {M : Type 1} → statement M
+numbers_spec =
     tie.close
     (tie.spec
     (λ c. search rules)

@@ -11,51 +11,46 @@ use Rattle.tally_counts.proofs.Summing.{passes-here, passes-later, passes-nowher
 use Rattle.tally_counts.proofs.sum.passes.Statement.{statement}
 use Rattle.tally_counts.proofs.sum.passes.Tie as tie
 
-abbrev invariant-loop : tie.invariant-loop
-invariant-loop old new place₀ place = (place ≤ 30) × (length old ≡ 30) × (length new ≡ 30) × (any_past (sums (drop place old) (drop place new)) ≡ any_past (sums old new))
+abbrev invariant-loop-place : tie.invariant-loop-place
+invariant-loop-place old new place₀ place = (place ≤ 30) × (length old ≡ 30) × (length new ≡ 30) × (any_past (sums (drop place old) (drop place new)) ≡ any_past (sums old new))
 
-abbrev decreases-loop : tie.decreases-loop
-decreases-loop old new place₀ place = 30 - place
+abbrev decreases-loop-place : tie.decreases-loop-place
+decreases-loop-place old new place₀ place = 30 - place
 
-loop-holds : tie.Need-loop-init invariant-loop decreases-loop
+loop-holds : tie.Need-loop-place-init invariant-loop-place decreases-loop-place
 loop-holds c = (omega arith, search rules, search rules, refl)
 
-returns : tie.Need-returns invariant-loop decreases-loop
+returns : tie.Need-returns-then-past invariant-loop-place decreases-loop-place
 returns c =
-    let turn = c.before.before in
-    let l = turn.before in
-    let v = l.loop.invariant in
-    sym (passes-here l.before.args.t1 l.before.args.t2 l.loop.place (omega (arith, v.1, turn.loop-test.true)) (omega (arith, v.2, turn.loop-test.true))
-    (ltb-true _ _ (sym c.before.past.ensures ∙ c.if1.true)))
+    let v = c.loop-place.invariant in
+    sym (passes-here c.args.old c.args.new c.loop-place.place (omega (arith, v.1, c.loop-place-test.true)) (omega (arith, v.2, c.loop-place-test.true))
+    (ltb-true _ _ (sym c.past.ensures ∙ c.if-past.true)))
     ∙ v.3
 
-loop-again : tie.Need-loop-preserved invariant-loop decreases-loop
+loop-again : tie.Need-loop-place-preserved invariant-loop-place decreases-loop-place
 loop-again c =
-    let turn = c.before.before in
-    let l = turn.before in
-    let v = l.loop.invariant in
-    let a = l.before.args in (
-      omega (arith, turn.loop-test.true),
+    let v = c.loop-place.invariant in
+    let a = c.args in (
+      omega (arith, c.loop-place-test.true),
       v.1,
       v.2,
-      ap (λ (n : ℕ). any_past (sums (drop n a.t1) (drop n a.t2))) (add-one l.loop.place)
-          ∙ passes-later a.t1 a.t2 l.loop.place (omega (arith, v.1, turn.loop-test.true)) (omega (arith, v.2, turn.loop-test.true))
-          (ltb-false _ _ (sym c.before.past.ensures ∙ c.if1.false))
+      ap (λ (n : ℕ). any_past (sums (drop n a.old) (drop n a.new))) (add-one c.loop-place.place)
+          ∙ passes-later a.old a.new c.loop-place.place (omega (arith, v.1, c.loop-place-test.true)) (omega (arith, v.2, c.loop-place-test.true))
+          (ltb-false _ _ (sym c.past.ensures ∙ c.if-past.false))
           ∙ v.3,
     )
 
-returns-2 : tie.Need-returns-2 invariant-loop decreases-loop
+returns-2 : tie.Need-returns invariant-loop-place decreases-loop-place
 returns-2 c =
-    let l = c.before in
-    let v = l.loop.invariant in
-    sym (passes-nowhere l.before.args.t1 l.before.args.t2 l.loop.place (omega (arith, v.1, c.loop-test.false))) ∙ v.3
+    let v = c.loop-place.invariant in
+    sym (passes-nowhere c.args.old c.args.new c.loop-place.place (omega (arith, v.1, c.loop-place-test.false))) ∙ v.3
 
-pub passes-spec : {M : Type 1} → statement M
-passes-spec =
+pub passes_spec : {M : Type 1} → statement M
+passes_spec =
     tie.close
     (tie.spec
-    invariant-loop
-    decreases-loop
+    invariant-loop-place
+    decreases-loop-place
     loop-holds
     (λ c. search rules)
     (λ c. search rules)

@@ -7,5 +7,5 @@ use Rattle.tally_counts.proofs.sum.past.Tie as tie
 returns : tie.Need-returns
 returns c = refl
 
-pub past-spec : {M : Type 1} → statement M
-past-spec = tie.close (tie.spec (λ c. search rules) returns)
+pub past_spec : {M : Type 1} → statement M
+past_spec = tie.close (tie.spec (λ c. search rules) returns)
