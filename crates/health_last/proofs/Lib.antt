@@ -3,3 +3,4 @@ pub mod Marks
 pub mod Placed
 pub mod Shown
 pub mod Turn
+pub mod Examples
