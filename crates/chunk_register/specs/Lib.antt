@@ -1,3 +1,2 @@
 pub mod Register
 pub mod Finder
-pub mod Examples

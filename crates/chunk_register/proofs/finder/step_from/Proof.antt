@@ -5,13 +5,13 @@ use Rattle.chunk_register.specs.Finder.{step_to, step_from}
 use Rattle.chunk_register.proofs.finder.step_from.Statement.{statement}
 use Rattle.chunk_register.proofs.finder.step_from.Tie as tie
 
-returns : tie.Need-returns
+returns : tie.Need-returns-in_default
 unfolding step_from step_to
-returns c = sym (ap step_to (sym c.before.before.next.ensures ∙ c.enum_told.given.1))
+returns c = sym (ap step_to (sym c.next-found.ensures ∙ c.in_default.is))
 
-returns-2 : tie.Need-returns-2
+returns-2 : tie.Need-returns
 unfolding step_from step_to
-returns-2 c = sym (ap step_to (sym c.before.before.before.next.ensures ∙ c.before.found.given.1))
+returns-2 c = sym (ap step_to (sym c.next-found.ensures ∙ c.in-Chunk.is))
 
-pub step-from-spec : {M : Type 1} → statement M
-step-from-spec = tie.close (tie.spec (λ c κs. search rules) (λ c. search rules) (λ c. search rules) returns returns-2)
+pub step_from_spec : {M : Type 1} → statement M
+step_from_spec = tie.close (tie.spec (λ c κs. search rules) (λ c. search rules) (λ c. search rules) returns returns-2)
