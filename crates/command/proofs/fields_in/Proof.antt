@@ -17,11 +17,11 @@ fields-by-place bs ew ek eq ea ed = cc
 
 returns : tie.Need-returns
 returns c =
-    fields-by-place c.before.before.before.before.before.before.args.bytes.now c.before.before.before.before.word-at.ensures c.before.before.before.byte-at.ensures c.before.before.byte-at2.ensures c.before.word-at2.ensures
-    c.word-at3.ensures
+    fields-by-place c.args.bytes.now c.word_at.ensures c.byte_at.ensures c.byte_at-2.ensures c.word_at-2.ensures
+    c.word_at-3.ensures
 
-pub fields-in-spec : {M : Type 1} → statement M
-fields-in-spec =
+pub fields_in_spec : {M : Type 1} → statement M
+fields_in_spec =
     tie.close
     (tie.spec
     (λ c κs. search rules)

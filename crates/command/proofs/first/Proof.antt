@@ -6,8 +6,8 @@ use Rattle.command.proofs.first.Tie as tie
 
 returns : tie.Need-returns
 returns c =
-    let a = c.before.before.before.before.before.args in
-    first-by-causes a.argument a.catalogue a.total.0 c.before.before.before.most.ensures c.before.cause.ensures c.cause2.ensures
+    let a = c.args in
+    first-by-causes a.argument a.catalogue a.total.0 c.most.ensures c.cause.ensures c.cause-2.ensures
 
 pub first_spec : {M : Type 1} → statement M
 first_spec = tie.close (tie.spec (λ c κs. search rules) (λ c κs. search rules) (λ c κs. search rules) returns)

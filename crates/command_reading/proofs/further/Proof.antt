@@ -5,23 +5,23 @@ use Rattle.command_reading.proofs.Replies.{accepted-within, no-further, further-
 use Rattle.command_reading.proofs.further.Statement.{statement}
 use Rattle.command_reading.proofs.further.Tie as tie
 
-returns : tie.Need-returns
-returns c = no-further _ _ _ c.before.before.before.read.ensures c.before.if1.true
+returns : tie.Need-returns-then-reply-ne0
+returns c = no-further _ _ _ c.read-reply.ensures c.if-reply-ne0.true
 
-sub-last : tie.Need-overflow-sub-last
-sub-last c = omega (arith, accepted-within _ _ _ c.before.before.read.ensures c.if1.false)
+sub-last : tie.Need-overflow_sub-last
+sub-last c = omega (arith, accepted-within _ _ _ c.read-reply.ensures c.if-reply-ne0.false)
 
-sub-result : tie.Need-overflow-sub-result
-sub-result c = omega (arith, accepted-within _ _ _ c.before.before.read.ensures c.if1.false)
+sub-result : tie.Need-slice_bounds-result-count
+sub-result c = omega (arith, accepted-within _ _ _ c.read-reply.ensures c.if-reply-ne0.false)
 
-part-result-start : tie.Need-slice-bounds-result-start
-part-result-start c = omega (arith, accepted-within _ _ _ c.before.before.read.ensures c.if1.false)
+part-result-start : tie.Need-slice_bounds-result-start
+part-result-start c = omega (arith, accepted-within _ _ _ c.read-reply.ensures c.if-reply-ne0.false)
 
-returns-2 : tie.Need-returns-2
-returns-2 c = further-part _ _ _ c.before.before.before.read.ensures c.before.if1.false
+returns-2 : tie.Need-returns
+returns-2 c = further-part _ _ _ c.read-reply.ensures c.if-reply-ne0.false
 
-pub further-spec : {M : Type 1} → statement M
-further-spec =
+pub further_spec : {M : Type 1} → statement M
+further_spec =
     tie.close
     (tie.spec
     (λ c κs. search rules)

@@ -6,13 +6,11 @@ use Rattle.command_reading.proofs.inspect.Tie as tie
 
 returns : tie.Need-returns
 returns c =
-    let judged = c.before.before.before.before in
-    let s = judged.before.before.before in
-    packet-by-causes s.args.catalogue s.args.mode s.args.fields s.args.bytes.now s.requires.0 judged.judge.ensures
-    c.before.before.before.header-wrong.ensures c.before.before.crc-wrong.ensures c.before.cause.ensures c.cause2.ensures
+    packet-by-causes c.args.catalogue c.args.mode c.args.fields c.args.bytes.now c.requires.0 c.judge-others.ensures
+    c.header_wrong.ensures c.crc_wrong.ensures c.cause.ensures c.cause-2.ensures
 
-pub inspect-spec : {M : Type 1} → statement M
-inspect-spec =
+pub inspect_spec : {M : Type 1} → statement M
+inspect_spec =
     tie.close
     (tie.spec
     (λ c. search rules)

@@ -5,25 +5,22 @@ use Rattle.command_reading.proofs.Replies.{asked-within, refused-at-first, read_
 use Rattle.command_reading.proofs.read.Statement.{statement}
 use Rattle.command_reading.proofs.read.Tie as tie
 
-returns : tie.Need-returns
-returns c = refused-at-first _ _ _ c.before.before.before.asked-wrong.ensures c.before.before.first.ensures c.before.if1.true _ c.give.ensures
+returns : tie.Need-returns-then-refused-ne0
+returns c = refused-at-first _ _ _ c.asked_wrong.ensures c.first-refused.ensures c.if-refused-ne0.true _ c.give.ensures
 
-sub_more : tie.Need-overflow-sub-more
+sub_more : tie.Need-overflow_sub-more
 sub_more c =
-    let b = c.before in
-    let a = b.before.before.before.before.before.args in
-    omega (arith, asked-within a.catalogue a.mode a.bytes.now b.before.before.asked-wrong.ensures b.before.first.ensures b.if1.false)
+    let a = c.args in
+    omega (arith, asked-within a.catalogue a.mode a.bytes.now c.asked_wrong.ensures c.first-refused.ensures c.if-refused-ne0.false)
 
 inspect-requires : tie.Need-inspect-requires
 inspect-requires c κs =
-    let b = c.before in
-    let a = b.before.before.before.before.before.args in
-    asked-within a.catalogue a.mode a.bytes.now b.before.before.asked-wrong.ensures b.before.first.ensures b.if1.false
+    let a = c.args in
+    asked-within a.catalogue a.mode a.bytes.now c.asked_wrong.ensures c.first-refused.ensures c.if-refused-ne0.false
 
-returns-2 : tie.Need-returns-2
+returns-2 : tie.Need-returns
 returns-2 c =
-    let b = c.before.before.before in
-    read_whole _ _ _ b.before.before.asked-wrong.ensures b.before.first.ensures b.if1.false b.before.before.before.fields_in.ensures c.before.inspect.ensures c.give2.ensures
+    read_whole _ _ _ c.asked_wrong.ensures c.first-refused.ensures c.if-refused-ne0.false c.fields_in-fields.ensures c.inspect.ensures c.give-2.ensures
 
 pub read_spec : {M : Type 1} → statement M
 read_spec =

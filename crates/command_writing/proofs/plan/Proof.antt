@@ -4,20 +4,19 @@ use Rattle.command_writing.proofs.Replies.{refused-at-first, refused-by-fields, 
 use Rattle.command_writing.proofs.plan.Statement.{statement}
 use Rattle.command_writing.proofs.plan.Tie as tie
 
-returns : tie.Need-returns
-returns c = refused-at-first _ _ _ _ _ c.before.before.before.asked-wrong.ensures c.before.before.first.ensures c.before.if1.true c.settle.ensures
+returns : tie.Need-returns-then-refused-ne0
+returns c = refused-at-first _ _ _ _ _ c.asked_wrong.ensures c.first-refused.ensures c.if-refused-ne0.true c.settle.ensures
 
-returns-2 : tie.Need-returns-2
+returns-2 : tie.Need-returns-then-judged-ne0
 returns-2 c =
-    refused-by-fields _ _ _ _ _ c.before.before.before.before.before.asked-wrong.ensures c.before.before.before.before.first.ensures c.before.before.before.if1.false c.before.before.judge.ensures c.before.if2.true c.settle2.ensures
+    refused-by-fields _ _ _ _ _ c.asked_wrong.ensures c.first-refused.ensures c.if-refused-ne0.false c.judge-judged.ensures c.if-judged-ne0.true c.settle-then-judged-ne0.ensures
 
-returns-3 : tie.Need-returns-3
+returns-3 : tie.Need-returns
 returns-3 c =
-    let k = c.before.before.before in
-    settled-by-room _ _ _ _ _ k.before.before.before.before.asked-wrong.ensures k.before.before.before.first.ensures k.before.before.if1.false k.before.judge.ensures k.if2.false c.before.cause.ensures c.settle3.ensures
+    settled-by-room _ _ _ _ _ c.asked_wrong.ensures c.first-refused.ensures c.if-refused-ne0.false c.judge-judged.ensures c.if-judged-ne0.false c.cause.ensures c.settle-2.ensures
 
-pub plan-spec : {M : Type 1} → statement M
-plan-spec =
+pub plan_spec : {M : Type 1} → statement M
+plan_spec =
     tie.close
     (tie.spec
     (λ c. search rules)

@@ -5,20 +5,19 @@ use Rattle.command_writing.proofs.Replies.{untouched, command-fits, stored}
 use Rattle.command_writing.proofs.write.Statement.{statement}
 use Rattle.command_writing.proofs.write.Tie as tie
 
-returns : tie.Need-returns
-returns c = (c.before.before.plan.ensures, untouched _ _ _ _ _ c.before.before.plan.ensures c.if1.true)
+returns : tie.Need-returns-then-sent-ne0
+returns c = (c.plan-sent.ensures, untouched _ _ _ _ _ c.plan-sent.ensures c.if-sent-ne0.true)
 
-head-requires : tie.Need-head-requires
+head-requires : tie.Need-head-front-requires
 head-requires c κs =
-    let fits = command-fits _ _ _ _ c.before.before.before.before.before.before.args.room.now c.before.before.before.plan.ensures c.before.if1.false in
+    let fits = command-fits _ _ _ _ c.args.room.now c.plan-sent.ensures c.if-sent-ne0.false in
     (fits.0, omega arith, omega (arith, fits.1))
 
-returns-2 : tie.Need-returns-2
+returns-2 : tie.Need-returns
 returns-2 c =
-    let headed = c.before.before.before.before.before in
-    let planned = headed.before.before.before.before in (
-      planned.plan.ensures,
-      stored _ _ _ _ _ planned.plan.ensures headed.before.before.if1.false headed.head.ensures c.before.before.put-sealed.ensures,
+    (
+      c.plan-sent.ensures,
+      stored _ _ _ _ _ c.plan-sent.ensures c.if-sent-ne0.false c.head-front.ensures c.put_sealed.ensures,
     )
 
 pub write_spec : {M : Type 1} → statement M
