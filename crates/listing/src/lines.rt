@@ -4,43 +4,49 @@ use chunk::{Entry, Found, header, search};
 use frame::{Description, Piece, pieces};
 use program_output::{Out, PAGE};
 
-pub fn recording(out: Out, page: &mut [u8; PAGE.0], words: &[u16], sync: u16) -> Out {
+pub fn recording(
+    out: Out,
+    rt: HostRuntime,
+    page: &mut [u8; PAGE.0],
+    words: &[u16],
+    sync: u16,
+) -> Out {
     let survey = chunk_reading::counting::count(words, sync);
-    out.text(page, b"recording ")
-        .number(page, words.len())
-        .text(page, b" skipped ")
-        .number(page, survey.skipped.0)
-        .text(page, b"\n")
+    out.text(rt, page, b"recording ")
+        .number(rt, page, words.len())
+        .text(rt, page, b" skipped ")
+        .number(rt, page, survey.skipped.0)
+        .text(rt, page, b"\n")
 }
 
 // A chunk that starts no frame and is no health chunk is a continuation.
-fn kind(out: Out, page: &mut [u8; PAGE.0], header: u16) -> Out {
+fn kind(out: Out, rt: HostRuntime, page: &mut [u8; PAGE.0], header: u16) -> Out {
     if header::kind_of(header) == 1 {
-        return out.text(page, b" health ");
+        return out.text(rt, page, b" health ");
     }
     if header::camera_of(header) == 0 {
-        return out.text(page, b" more ");
+        return out.text(rt, page, b" more ");
     }
-    out.text(page, b" image ")
+    out.text(rt, page, b" image ")
 }
 
 // A chunk that ends with the recording is marked: no header after it confirms its end.
-fn chunk(out: Out, page: &mut [u8; PAGE.0], entry: Entry) -> Out {
+fn chunk(out: Out, rt: HostRuntime, page: &mut [u8; PAGE.0], entry: Entry) -> Out {
     let word = entry.header;
-    let placed = out.number(page, entry.position.0);
-    let begun = kind(placed, page, word);
+    let placed = out.number(rt, page, entry.position.0);
+    let begun = kind(placed, rt, page, word);
     let sized = begun
-        .number(page, header::camera_of(word) as usize)
-        .text(page, b" ")
-        .number(page, header::size_of(word).0);
+        .number(rt, page, header::camera_of(word) as usize)
+        .text(rt, page, b" ")
+        .number(rt, page, header::size_of(word).0);
     if entry.end {
-        return sized.text(page, b" end\n");
+        return sized.text(rt, page, b" end\n");
     }
-    sized.text(page, b"\n")
+    sized.text(rt, page, b"\n")
 }
 
 // A line for each listed chunk.
-pub fn chunks(out: Out, page: &mut [u8; PAGE.0], words: &[u16], sync: u16) -> Out {
+pub fn chunks(out: Out, rt: HostRuntime, page: &mut [u8; PAGE.0], words: &[u16], sync: u16) -> Out {
     let mut said = out;
     let mut at: usize = 0;
     loop {
@@ -48,44 +54,56 @@ pub fn chunks(out: Out, page: &mut [u8; PAGE.0], words: &[u16], sync: u16) -> Ou
         let Found::Chunk(entry, next) = found else {
             return said;
         };
-        said = chunk(said, page, entry);
+        said = chunk(said, rt, page, entry);
         at = next.0;
     }
 }
 
-fn frame(out: Out, page: &mut [u8; PAGE.0], place: Words, described: Description) -> Out {
+fn frame(
+    out: Out,
+    rt: HostRuntime,
+    page: &mut [u8; PAGE.0],
+    place: Words,
+    described: Description,
+) -> Out {
     let begun = out
-        .text(page, b"frame ")
-        .number(page, place.0)
-        .text(page, b" camera ")
-        .number(page, described.camera as usize)
-        .text(page, b" chunks ")
-        .number(page, described.chunks);
+        .text(rt, page, b"frame ")
+        .number(rt, page, place.0)
+        .text(rt, page, b" camera ")
+        .number(rt, page, described.camera as usize)
+        .text(rt, page, b" chunks ")
+        .number(rt, page, described.chunks);
     if described.complete {
-        return begun.text(page, b" complete\n");
+        return begun.text(rt, page, b" complete\n");
     }
-    begun.text(page, b" cut\n")
+    begun.text(rt, page, b" cut\n")
 }
 
-fn stray(out: Out, page: &mut [u8; PAGE.0], place: Words) -> Out {
-    out.text(page, b"stray ")
-        .number(page, place.0)
-        .text(page, b"\n")
+fn stray(out: Out, rt: HostRuntime, page: &mut [u8; PAGE.0], place: Words) -> Out {
+    out.text(rt, page, b"stray ")
+        .number(rt, page, place.0)
+        .text(rt, page, b"\n")
 }
 
 // A line for each frame and each stray continuation.
-pub fn frames_and_strays(out: Out, page: &mut [u8; PAGE.0], words: &[u16], sync: u16) -> Out {
+pub fn frames_and_strays(
+    out: Out,
+    rt: HostRuntime,
+    page: &mut [u8; PAGE.0],
+    words: &[u16],
+    sync: u16,
+) -> Out {
     let mut said = out;
     let mut at: usize = 0;
     loop {
         let piece = pieces::next(words, sync, Words(at));
         match piece {
             Piece::Frame(place, described, next) => {
-                said = frame(said, page, place, described);
+                said = frame(said, rt, page, place, described);
                 at = next.0;
             }
             Piece::Stray(entry, next) => {
-                said = stray(said, page, entry.position);
+                said = stray(said, rt, page, entry.position);
                 at = next.0;
             }
             Piece::End => {
@@ -95,11 +113,11 @@ pub fn frames_and_strays(out: Out, page: &mut [u8; PAGE.0], words: &[u16], sync:
     }
 }
 
-pub fn runs(out: Out, page: &mut [u8; PAGE.0], words: &[u16], sync: u16) -> Out {
+pub fn runs(out: Out, rt: HostRuntime, page: &mut [u8; PAGE.0], words: &[u16], sync: u16) -> Out {
     let outline = chunk_outline::outline(words, sync);
-    out.text(page, b"runs ")
-        .number(page, outline.image)
-        .text(page, b" ")
-        .number(page, outline.health)
-        .text(page, b"\n")
+    out.text(rt, page, b"runs ")
+        .number(rt, page, outline.image)
+        .text(rt, page, b" ")
+        .number(rt, page, outline.health)
+        .text(rt, page, b"\n")
 }

@@ -6,7 +6,7 @@ ghost use Rattle.io.specs.Counts.{IsPrefixLen};
 
 use base::{Bytes, Words, limit};
 use program_reading::Taken;
-use std::env::Env;
+use std::env::{Env, FillError};
 use std::fs::File;
 
 // the sync word, and a recording at the limit
@@ -24,6 +24,16 @@ pub struct Heard {
     pub failed: bool,
     pub refusal: u8,
     pub end: Words,
+}
+
+// How many arguments there are, the program's own name among them.
+pub fn arguments(rt: HostRuntime) -> usize {
+    for i in 0..usize::MAX {
+        if let Err(FillError::NotPresent) = rt.arg(i, &mut []) {
+            return i;
+        }
+    }
+    usize::MAX
 }
 
 // Reads the file whose name is the argument with this number. No file is named by an argument that is missing, too long or no text in UTF-8. Whether closing

@@ -1,46 +1,47 @@
 // The lines of a tally, and what is told on standard error of a file that is not taken.
-use libc::{ENAMETOOLONG, PATH_MAX, STDERR_FILENO};
-use program_output::{Out, PAGE};
+use program_files::NAME;
+use program_output::{ERROR, Out, PAGE};
+use std::env::{Env, FillError};
 use tally_counts::{NUMBERS, Tally};
 
-fn number(out: Out, page: &mut [u8; PAGE.0], n: u32) -> Out {
-    out.number(page, n as usize).text(page, b"\n")
+fn number(out: Out, rt: HostRuntime, page: &mut [u8; PAGE.0], n: u32) -> Out {
+    out.number(rt, page, n as usize).text(rt, page, b"\n")
 }
 
 // The thirty numbers, one to a line.
-pub fn numbers(out: Out, page: &mut [u8; PAGE.0], tally: Tally) -> Out {
+pub fn numbers(out: Out, rt: HostRuntime, page: &mut [u8; PAGE.0], tally: Tally) -> Out {
     let numbers = tally_counts::numbers(tally);
     let mut said = out;
     let mut i: usize = 0;
     while i < NUMBERS {
-        said = number(said, page, numbers[i]);
+        said = number(said, rt, page, numbers[i]);
         i += 1;
     }
     said
 }
 
 // A line's beginning, with the name of the file that an argument names. A name that is too long for any file is told by its first bytes.
-fn named(page: &mut [u8; PAGE.0], argument: usize) -> Out {
-    let mut name = [0u8; PATH_MAX];
-    let length = os::arg(argument, &mut name);
-    let too_long = os::errno() == ENAMETOOLONG;
-    let begun = Out::to(STDERR_FILENO).text(page, b"tally: ");
-    if too_long {
-        return begun.text(page, &name).text(page, b": ");
+fn named(rt: HostRuntime, page: &mut [u8; PAGE.0], argument: usize) -> Out {
+    let mut name = [0u8; NAME.0];
+    let told = rt.arg(argument, &mut name);
+    let begun = Out::to(ERROR).text(rt, page, b"tally: ");
+    match told {
+        Ok(length) => begun.text(rt, page, &name[..length]).text(rt, page, b": "),
+        Err(FillError::TooLong) => begun.text(rt, page, &name).text(rt, page, b": "),
+        Err(FillError::NotPresent) => begun.text(rt, page, b": "),
     }
-    begun.text(page, &name[..length]).text(page, b": ")
 }
 
 // A file that cannot be read.
-pub fn unread(argument: usize) {
+pub fn unread(rt: HostRuntime, argument: usize) {
     let mut page = [0u8; PAGE.0];
-    let told = named(&mut page, argument).text(&mut page, b"cannot be read\n");
-    told.flush(&page);
+    let told = named(rt, &mut page, argument).text(rt, &mut page, b"cannot be read\n");
+    told.flush(rt, &page);
 }
 
 // A file that is refused with this number.
-pub fn refused(argument: usize, refusal: u8) {
+pub fn refused(rt: HostRuntime, argument: usize, refusal: u8) {
     let mut page = [0u8; PAGE.0];
-    let told = named(&mut page, argument).refused(&mut page, refusal);
-    told.flush(&page);
+    let told = named(rt, &mut page, argument).refused(rt, &mut page, refusal);
+    told.flush(rt, &page);
 }

@@ -2,9 +2,8 @@
 // then in all. For each it writes what is answered, the refusal number and the thirty numbers.
 #![tactic(auto)]
 
-use libc::STDOUT_FILENO;
 use program_files::{ROOM, WORDS};
-use program_output::{Out, PAGE};
+use program_output::{OUTPUT, Out, PAGE};
 use tally_counts::{Counted, NUMBERS};
 
 // the largest number of a tally
@@ -27,25 +26,26 @@ fn all_below(added: [u32; NUMBERS]) -> [u32; NUMBERS] {
 }
 
 // A number after a space.
-fn field(out: Out, page: &mut [u8; PAGE.0], n: u32) -> Out {
-    out.text(page, b" ").number(page, n as usize)
+fn field(out: Out, rt: HostRuntime, page: &mut [u8; PAGE.0], n: u32) -> Out {
+    out.text(rt, page, b" ").number(rt, page, n as usize)
 }
 
 // The line of an answer.
-fn line(out: Out, page: &mut [u8; PAGE.0], answer: Counted) -> Out {
+fn line(out: Out, rt: HostRuntime, page: &mut [u8; PAGE.0], answer: Counted) -> Out {
     let numbers = tally_counts::numbers(answer.tally);
-    let mut said = out.number(page, answer.refusal as usize);
+    let mut said = out.number(rt, page, answer.refusal as usize);
     let mut i: usize = 0;
     while i < NUMBERS {
-        said = field(said, page, numbers[i]);
+        said = field(said, rt, page, numbers[i]);
         i += 1;
     }
-    said.text(page, b"\n")
+    said.text(rt, page, b"\n")
 }
 
 // The line of these numbers with a recording more.
 fn added(
     out: Out,
+    rt: HostRuntime,
     page: &mut [u8; PAGE.0],
     numbers: [u32; NUMBERS],
     recording: &[u16],
@@ -53,6 +53,7 @@ fn added(
 ) -> Out {
     line(
         out,
+        rt,
         page,
         tally_counts::added(tally_counts::from_numbers(numbers), recording, sync),
     )
@@ -61,6 +62,7 @@ fn added(
 // Two lines for each place alone: with the number that reaches the largest, and with one more.
 fn places(
     out: Out,
+    rt: HostRuntime,
     page: &mut [u8; PAGE.0],
     near: [u32; NUMBERS],
     recording: &[u16],
@@ -71,38 +73,38 @@ fn places(
     while i < NUMBERS {
         let mut numbers = [0u32; NUMBERS];
         numbers[i] = near[i];
-        said = added(said, page, numbers, recording, sync);
+        said = added(said, rt, page, numbers, recording, sync);
         numbers[i] = std::num::wrapping_add_u32(near[i], 1);
-        said = added(said, page, numbers, recording, sync);
+        said = added(said, rt, page, numbers, recording, sync);
         i += 1;
     }
     said
 }
 
 // The recording alone, each place alone, then all places at once: just at the limit, past it, and with a recording that is too long, as 1 comes before 7.
-fn lines(out: Out, page: &mut [u8; PAGE.0], recording: &[u16], sync: u16) -> Out {
+fn lines(out: Out, rt: HostRuntime, page: &mut [u8; PAGE.0], recording: &[u16], sync: u16) -> Out {
     let too_long = [0u16; WORDS.0];
     let one = tally_counts::added(tally_counts::empty(), recording, sync);
     let near = all_below(tally_counts::numbers(one.tally));
-    let alone = places(line(out, page, one), page, near, recording, sync);
-    let reached = added(alone, page, near, recording, sync);
-    let passed = added(reached, page, [LARGEST; NUMBERS], recording, sync);
-    added(passed, page, [LARGEST; NUMBERS], &too_long, sync)
+    let alone = places(line(out, rt, page, one), rt, page, near, recording, sync);
+    let reached = added(alone, rt, page, near, recording, sync);
+    let passed = added(reached, rt, page, [LARGEST; NUMBERS], recording, sync);
+    added(passed, rt, page, [LARGEST; NUMBERS], &too_long, sync)
 }
 
-fn main() {
+fn main(rt: HostRuntime) {
     let mut bytes = [0u8; ROOM.0];
     let mut words = [0u16; WORDS.0];
-    let heard = program_files::hear(1, &mut bytes, &mut words);
+    let heard = program_files::hear(rt, 1, &mut bytes, &mut words);
     if heard.refusal != 0 {
-        program_output::complain(b"tally_limit: the recording cannot be taken\n");
+        program_output::complain(rt, b"tally_limit: the recording cannot be taken\n");
         return;
     }
     let sync = words[0];
     let end = heard.end.0;
     let mut page = [0u8; PAGE.0];
-    let out = lines(Out::to(STDOUT_FILENO), &mut page, &words[1..end], sync);
-    if out.flush(&page).failed {
-        program_output::complain(b"tally_limit: standard output cannot be written\n");
+    let out = lines(Out::to(OUTPUT), rt, &mut page, &words[1..end], sync);
+    if out.flush(rt, &page).failed {
+        program_output::complain(rt, b"tally_limit: standard output cannot be written\n");
     }
 }
