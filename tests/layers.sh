@@ -9,7 +9,8 @@ import re
 import sys
 
 lines = [line.partition('#')[0] for line in pathlib.Path('crates.txt').read_text().splitlines()]
-needs = {name.strip(): below.split() for name, colon, below in (line.partition(':') for line in lines) if colon}
+# before the colon stand a crate's name and, if it is one, 'staticlib'
+needs = {name.split()[0]: below.split() for name, colon, below in (line.partition(':') for line in lines) if colon}
 code = {crate for crate in needs if any(re.search(r'\bfn \w', path.read_text()) for path in pathlib.Path('crates', crate, 'src').glob('*.rt'))}
 laws = {crate for crate in needs if crate.endswith('_laws')}
 

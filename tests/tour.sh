@@ -8,7 +8,9 @@ import re
 import sys
 
 lines = pathlib.Path('crates.txt').read_text().splitlines()
-crates = [(line.partition(':')[0].strip(), above.removeprefix('# ')) for above, line in zip(['', *lines], lines) if re.match(r'\w+\s*:', line)]
+# a crate's line has its name, 'staticlib' behind it if it is a static library, and a colon
+named = [(re.match(r'(\w+)(?:\s+staticlib)?\s*:', line), above) for above, line in zip(['', *lines], lines)]
+crates = [(found[1], above.removeprefix('# ')) for found, above in named if found]
 tour = pathlib.Path('README.md').read_text().partition('### Tour')[2].partition('\n#')[0]
 rows = re.findall(r'^\| `(\w+)` \| (.*?) \|', tour, re.M)
 

@@ -1,4 +1,4 @@
-/* Hawserfen for C code: calls of docs/FORMAT.md, which has their rules. `rt staticlib exports` proves them and writes
+/* Hawserfen for C code: calls of docs/FORMAT.md, which has their rules. `tools/staticlib` proves them and writes
    target/staticlib/libexports.a, for x86-64 Linux. Nothing else has to be linked.
 
    A word is a number of the machine, its bit 15 the most significant. A recording's bytes have the high byte of each
