@@ -11,51 +11,44 @@ use Rattle.frame_reading.proofs.at.Statement.{statement}
 use Rattle.frame_reading.proofs.at.Tie as tie
 
 -- nothing is refused
-module _ (c : tie.Else1) where
+module _ (c : tie.Else-verdict-ne0) where
   abbrev a : tie.Start
   a = c.before.before.before
 
   none : verdict (at_causes a.args.sync a.args.recording.now a.args.place.0) ≡ 0
-  none = sym c.before.find.ensures ∙ c.if1.false
+  none = sym c.find-verdict.ensures ∙ c.if-verdict-ne0.false
 
   inside : a.args.place.0 ≤ length a.args.recording.now
   inside = place_inside a.args.sync a.args.place.0 a.args.recording.now none
 
-returns : tie.Need-returns
+returns : tie.Need-returns-then-verdict-ne0
 returns c =
-    let a = c.before.before.before.before in
-    c.refused.ensures ∙ at-refused a.args.sync a.args.place.0 a.args.recording.now _ c.before.before.find.ensures c.before.if1.true
+    c.refused.ensures ∙ at-refused c.args.sync c.args.place.0 c.args.recording.now _ c.find-verdict.ensures c.if-verdict-ne0.true
 
-mul_next : tie.Need-overflow-mul-next
+mul_next : tie.Need-offset_bounds-recording-from
 mul_next c = omega (arith, inside c)
 
-sub-next : tie.Need-overflow-sub-next
+sub-next : tie.Need-slice_bounds-next-count
 sub-next c = omega (arith, inside c)
 
-part-next-start : tie.Need-slice-bounds-next-start
+part-next-start : tie.Need-slice_bounds-next-start
 part-next-start c = let i = inside c in search rules
 
-returns-2 : tie.Need-returns-2
+returns-2 : tie.Need-returns-in-Frame
 returns-2 c =
-    let n = c.before.before.before.before in
-    let t = n.before.before in
     c.told.ensures
-    ∙ at-given (a t).args.sync (a t).args.place.0 (a t).args.recording.now (none t) _ n.next.ensures _ _ _ c.before.before.piece.given.1
+    ∙ at-given c.args.sync c.args.place.0 c.args.recording.now (none c.before.before.before.before) _ c.next-piece.ensures _ _ _ c.in-Frame.is
 
-returns-3 : tie.Need-returns-3
+returns-3 : tie.Need-returns-in-Stray
 returns-3 c =
-    let n = c.before.before.before in
-    let t = n.before.before in
-    absurd (no_stray (a t).args.sync (a t).args.place.0 (a t).args.recording.now (none t) _ n.next.ensures _ _ c.before.enum_told.given.1)
+    absurd (no_stray c.args.sync c.args.place.0 c.args.recording.now (none c.before.before.before.before) _ c.next-piece.ensures _ _ c.in-Stray.is)
 
-returns-4 : tie.Need-returns-4
+returns-4 : tie.Need-returns-in-End
 returns-4 c =
-    let n = c.before.before.before in
-    let t = n.before.before in
-    absurd (no_end (a t).args.sync (a t).args.place.0 (a t).args.recording.now (none t) _ n.next.ensures c.before.enum-told2.given.1)
+    absurd (no_end c.args.sync c.args.place.0 c.args.recording.now (none c.before.before.before.before) _ c.next-piece.ensures c.in-End.is)
 
-pub at-spec : {M : Type 1} → statement M
-at-spec =
+pub at_spec : {M : Type 1} → statement M
+at_spec =
     tie.close
     (tie.spec
     (λ c κs. search rules)

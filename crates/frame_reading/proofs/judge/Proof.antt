@@ -4,7 +4,7 @@ use Rattle.frame_reading.proofs.judge.Statement.{statement}
 use Rattle.frame_reading.proofs.judge.Tie as tie
 
 returns : tie.Need-returns
-returns c = c.before.inspect.ensures.0
+returns c = c.inspect.ensures.0
 
-pub judge-spec : {M : Type 1} → statement M
-judge-spec = tie.close (tie.spec (λ c κs. search rules) returns)
+pub judge_spec : {M : Type 1} → statement M
+judge_spec = tie.close (tie.spec (λ c κs. search rules) returns)

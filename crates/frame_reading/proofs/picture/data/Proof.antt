@@ -10,81 +10,70 @@ use Rattle.frame_reading.proofs.picture.Along.{Given, none-given, inside, untouc
 use Rattle.frame_reading.proofs.picture.data.Statement.{statement}
 use Rattle.frame_reading.proofs.picture.data.Tie as tie
 
-abbrev invariant-loop : tie.invariant-loop
-invariant-loop words chunks touched room₀ left₀ at₀ place₀ room left at place = Given words (units_along chunks words) touched room₀ room left at.0 place.0
+abbrev invariant-loop-left : tie.invariant-loop-left
+invariant-loop-left words chunks touched room₀ left₀ at₀ place₀ room left at place = Given words (units_along chunks words) touched room₀ room left at.0 place.0
 
-abbrev decreases-loop : tie.decreases-loop
-decreases-loop words chunks touched room₀ left₀ at₀ place₀ room left at place = left
+abbrev decreases-loop-left : tie.decreases-loop-left
+decreases-loop-left words chunks touched room₀ left₀ at₀ place₀ room left at place = left
 
-loop-holds : tie.Need-loop-init invariant-loop decreases-loop
+loop-holds : tie.Need-loop-left-init invariant-loop-left decreases-loop-left
 loop-holds c =
-    let a = c.before.before in
-    none-given a.args.words.now a.args.room.now a.args.chunks a.args.touched a.requires.0 a.requires.1.0 a.requires.1.1
+    none-given c.args.words.now c.args.room.now c.args.chunks c.args.touched c.requires.0 c.requires.1.0 c.requires.1.1
 
 -- the chunk of a turn lies within the words
-within : (c : tie.In-loop invariant-loop decreases-loop)
-    → (let ws = c.before.before.before.before.args.words.now in c.before.loop.at.0 + 2 + size (get_or ws (c.before.loop.at.0 + 1) 0) ≤ length ws)
-within c = inside _ _ _ c.before.loop.invariant.within c.loop-test.true
+within : (c : tie.In-loop-left invariant-loop-left decreases-loop-left)
+    → (let ws = c.args.words.now in c.loop-left.at.0 + 2 + size (get_or ws (c.loop-left.at.0 + 1) 0) ≤ length ws)
+within c = inside _ _ _ c.loop-left.invariant.within c.loop-left-test.true
 
-add-from : tie.Need-overflow-add-from invariant-loop decreases-loop
+add-from : tie.Need-overflow_add-from invariant-loop-left decreases-loop-left
 add-from c = omega (arith, within c.before)
 
-add-size-of : tie.Need-overflow-add-size-of invariant-loop decreases-loop
+add-size-of : tie.Need-overflow_add-begins invariant-loop-left decreases-loop-left
 add-size-of c = omega (arith, within c.before)
 
-mul-size-of : tie.Need-overflow-mul-size-of invariant-loop decreases-loop
+mul-size-of : tie.Need-offset_bounds-words-begins invariant-loop-left decreases-loop-left
 mul-size-of c = omega (arith, within c.before)
 
-shared-slice-read-size-of : tie.Need-shared-slice-read-size-of invariant-loop decreases-loop
+shared-slice-read-size-of : tie.Need-bounds-words-begins invariant-loop-left decreases-loop-left
 shared-slice-read-size-of c = omega (arith, within c.before.before)
 
-add-to : tie.Need-overflow-add-to invariant-loop decreases-loop
-add-to c = omega (arith, within c.before.before.before.before, c.before.size-of.ensures)
+add-to : tie.Need-overflow_add-to invariant-loop-left decreases-loop-left
+add-to c = omega (arith, within c.before.before.before.before, c.size_of.ensures)
 
-mul-give : tie.Need-overflow-mul-give invariant-loop decreases-loop
+mul-give : tie.Need-offset_bounds-words-from invariant-loop-left decreases-loop-left
 mul-give c = omega (arith, within c.before.before.before.before)
 
-part-give-end : tie.Need-slice-bounds-give-end invariant-loop decreases-loop
+part-give-end : tie.Need-slice_bounds-give-end invariant-loop-left decreases-loop-left
 part-give-end c = let w = within c.before.before.before.before in search rules
 
-give-requires : tie.Need-give-requires invariant-loop decreases-loop
+give-requires : tie.Need-give-requires invariant-loop-left decreases-loop-left
 give-requires c κs =
-    let t = c.before.before.before in
-    let l = t.before.before.before.before in
-    untouched-here _ _ _ _ _ _ _ _ l.loop.invariant t.before.before.before.loop-test.true _ (ap (λ (n : ℕ). l.loop.at.0 + 2 + n) t.size-of.ensures)
+    untouched-here _ _ _ _ _ _ _ _ c.loop-left.invariant c.loop-left-test.true _ (ap (λ (n : ℕ). c.loop-left.at.0 + 2 + n) c.size_of.ensures)
 
--- where the size of a turn's chunk is read
-abbrev sized : tie.After-struct-known4 invariant-loop decreases-loop → tie.After-size-of invariant-loop decreases-loop
-sized c = c.before.before.before.before.before.before.before.before
-
-add-past : tie.Need-overflow-add-past invariant-loop decreases-loop
+add-past : tie.Need-overflow_add-past invariant-loop-left decreases-loop-left
 add-past c =
-    let t = sized c in
-    let l = t.before.before.before.before in
-    omega (arith, room-left _ _ _ _ _ _ _ _ l.loop.inv t.before.before.before.loop-test.taken _ (ap (λ (n : ℕ). l.loop.at.0 + 2 + n) t.size-of.ensures) _ c.before.before.before.before.give.ensures.0)
+    omega (arith, room-left _ _ _ _ _ _ _ _ c.loop-left.invariant c.loop-left-test.true _ (ap (λ (n : ℕ). c.loop-left.at.0 + 2 + n) c.size_of.ensures) _ c.give.ensures.0)
 
-sub-left : tie.Need-overflow-sub-left invariant-loop decreases-loop
-sub-left c = omega (arith, (sized c).before.before.before.loop-test.true)
+sub-left : tie.Need-overflow_sub-left invariant-loop-left decreases-loop-left
+sub-left c = omega (arith, c.loop-left-test.true)
 
-loop-less : tie.Need-loop-smaller invariant-loop decreases-loop
-loop-less c = omega (arith, (sized c).before.before.before.loop-test.true)
+loop-less : tie.Need-loop-left-smaller invariant-loop-left decreases-loop-left
+loop-less c = omega (arith, c.loop-left-test.true)
 
-loop-again : tie.Need-loop-preserved invariant-loop decreases-loop
+loop-again : tie.Need-loop-left-preserved invariant-loop-left decreases-loop-left
 loop-again c =
-    let t = sized c in
-    let l = t.before.before.before.before in
-    chunk-given _ _ _ _ _ _ _ _ l.loop.inv t.before.before.before.loop-test.taken _ (ap (λ (n : ℕ). l.loop.at.0 + 2 + n) t.size-of.ensures)
-    _ c.before.before.before.before.give.ensures.0 _ c.before.before.before.before.give.ensures.1
+    chunk-given _ _ _ _ _ _ _ _ c.loop-left.invariant c.loop-left-test.true _ (ap (λ (n : ℕ). c.loop-left.at.0 + 2 + n) c.size_of.ensures)
+    _ c.give.ensures.0 _ c.give.ensures.1
 
-returns : tie.Need-returns invariant-loop decreases-loop
-returns c = all-given _ _ _ _ _ _ _ _ c.before.loop.invariant c.loop-test.false
+returns : tie.Need-returns invariant-loop-left decreases-loop-left
+returns c = all-given _ _ _ _ _ _ _ _ c.loop-left.invariant c.loop-left-test.false
 
-pub data-spec : {M : Type 1} → statement M
-data-spec =
+pub data_spec : {M : Type 1} → statement M
+data_spec =
     tie.close
     (tie.spec
-    invariant-loop
-    decreases-loop
+    invariant-loop-left
+    decreases-loop-left
     loop-holds
     add-from
     add-size-of

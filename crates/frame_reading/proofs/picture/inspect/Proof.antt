@@ -11,59 +11,57 @@ use Rattle.frame_reading.proofs.picture.Along.{Inspected, none-inspected, inside
 use Rattle.frame_reading.proofs.picture.inspect.Statement.{statement}
 use Rattle.frame_reading.proofs.picture.inspect.Tie as tie
 
-abbrev invariant-loop : tie.invariant-loop
-invariant-loop words chunks left₀ at₀ damaged₀ touched₀ left at damaged touched = Inspected words (units_along chunks words) left at.0 damaged touched
+abbrev invariant-loop-left : tie.invariant-loop-left
+invariant-loop-left words chunks left₀ at₀ damaged₀ touched₀ left at damaged touched = Inspected words (units_along chunks words) left at.0 damaged touched
 
-abbrev decreases-loop : tie.decreases-loop
-decreases-loop words chunks left₀ at₀ damaged₀ touched₀ left at damaged touched = left
+abbrev decreases-loop-left : tie.decreases-loop-left
+decreases-loop-left words chunks left₀ at₀ damaged₀ touched₀ left at damaged touched = left
 
-loop-holds : tie.Need-loop-init invariant-loop decreases-loop
-loop-holds c = none-inspected c.before.args.words.now c.before.args.chunks c.before.requires
+loop-holds : tie.Need-loop-left-init invariant-loop-left decreases-loop-left
+loop-holds c = none-inspected c.args.words.now c.args.chunks c.requires
 
 -- the chunk of a turn lies within the words
-within : (c : tie.In-loop invariant-loop decreases-loop)
-    → (let ws = c.before.before.before.args.words.now in c.before.loop.at.0 + 2 + size (get_or ws (c.before.loop.at.0 + 1) 0) ≤ length ws)
-within c = inside _ _ _ c.before.loop.invariant.within c.loop-test.true
+within : (c : tie.In-loop-left invariant-loop-left decreases-loop-left)
+    → (let ws = c.args.words.now in c.loop-left.at.0 + 2 + size (get_or ws (c.loop-left.at.0 + 1) 0) ≤ length ws)
+within c = inside _ _ _ c.loop-left.invariant.within c.loop-left-test.true
 
-add-from : tie.Need-overflow-add-from invariant-loop decreases-loop
+add-from : tie.Need-overflow_add-from invariant-loop-left decreases-loop-left
 add-from c = omega (arith, within c.before)
 
-add-size-of : tie.Need-overflow-add-size-of invariant-loop decreases-loop
+add-size-of : tie.Need-overflow_add-begins invariant-loop-left decreases-loop-left
 add-size-of c = omega (arith, within c.before)
 
-mul-size-of : tie.Need-overflow-mul-size-of invariant-loop decreases-loop
+mul-size-of : tie.Need-offset_bounds-words-begins invariant-loop-left decreases-loop-left
 mul-size-of c = omega (arith, within c.before)
 
-shared-slice-read-size-of : tie.Need-shared-slice-read-size-of invariant-loop decreases-loop
+shared-slice-read-size-of : tie.Need-bounds-words-begins invariant-loop-left decreases-loop-left
 shared-slice-read-size-of c = omega (arith, within c.before.before)
 
-add-to : tie.Need-overflow-add-to invariant-loop decreases-loop
-add-to c = omega (arith, within c.before.before.before.before, c.before.size-of.ensures)
+add-to : tie.Need-overflow_add-to invariant-loop-left decreases-loop-left
+add-to c = omega (arith, within c.before.before.before.before, c.size_of.ensures)
 
-mul-inspect : tie.Need-overflow-mul-inspect invariant-loop decreases-loop
+mul-inspect : tie.Need-offset_bounds-words-from invariant-loop-left decreases-loop-left
 mul-inspect c = omega (arith, within c.before.before.before.before)
 
-part-inspect-end : tie.Need-slice-bounds-inspect-end invariant-loop decreases-loop
+part-inspect-end : tie.Need-slice_bounds-inspect-end invariant-loop-left decreases-loop-left
 part-inspect-end c = let w = within c.before.before.before.before in search rules
 
-loop-again : tie.Need-loop-preserved invariant-loop decreases-loop
+loop-again : tie.Need-loop-left-preserved invariant-loop-left decreases-loop-left
 loop-again c =
-    let t = c.before.before.before.before.before in
-    let l = t.before.before.before.before in
-    chunk-inspected _ _ _ _ _ _ l.loop.invariant t.before.before.before.loop-test.true _ (ap (λ (n : ℕ). l.loop.at.0 + 2 + n) t.size-of.ensures) _
-    c.before.before.inspect.ensures
+    chunk-inspected _ _ _ _ _ _ c.loop-left.invariant c.loop-left-test.true _ (ap (λ (n : ℕ). c.loop-left.at.0 + 2 + n) c.size_of.ensures) _
+    c.inspect-harm.ensures
 
-returns : tie.Need-returns invariant-loop decreases-loop
+returns : tie.Need-returns invariant-loop-left decreases-loop-left
 returns c =
-    let h = all-inspected _ _ _ _ _ _ c.before.loop.invariant c.loop-test.false in
+    let h = all-inspected _ _ _ _ _ _ c.loop-left.invariant c.loop-left-test.false in
     ap₂ (λ (d t : Bool). record { damaged = d; touched = t }) h.0 h.1
 
-pub inspect-spec : {M : Type 1} → statement M
-inspect-spec =
+pub inspect_spec : {M : Type 1} → statement M
+inspect_spec =
     tie.close
     (tie.spec
-    invariant-loop
-    decreases-loop
+    invariant-loop-left
+    decreases-loop-left
     loop-holds
     add-from
     add-size-of
