@@ -10,65 +10,54 @@ use Rattle.reel.proofs.index.Compared.{Compared, none-compared, entry-compared, 
 use Rattle.reel.proofs.index.agrees.Statement.{statement}
 use Rattle.reel.proofs.index.agrees.Tie as tie
 
-abbrev invariant-loop : tie.invariant-loop
-invariant-loop recording sync index from₀ at₀ from at = Compared sync recording index from at
+abbrev invariant-loop-entry : tie.invariant-loop-entry
+invariant-loop-entry recording sync index from₀ at₀ from at = Compared sync recording index from at
 
-abbrev decreases-loop : tie.decreases-loop
-decreases-loop recording sync index from₀ at₀ from at = length recording - from
+abbrev decreases-loop-entry : tie.decreases-loop-entry
+decreases-loop-entry recording sync index from₀ at₀ from at = length recording - from
 
-loop-holds : tie.Need-loop-init invariant-loop decreases-loop
+loop-holds : tie.Need-loop-entry-init invariant-loop-entry decreases-loop-entry
 loop-holds c = none-compared _ _ _
 
-returns : tie.Need-returns invariant-loop decreases-loop
+returns : tie.Need-returns-in_default invariant-loop-entry decreases-loop-entry
 returns c =
-    let l = c.before.before.before in
-    let a = l.before.before.before.args in
-    all-compared a.sync a.recording.now a.index.now _ _ l.loop.invariant
-    (ended a.sync a.recording.now l.loop.from (sym c.before.before.next.ensures ∙ c.enum_told.given.1))
+    let a = c.args in
+    all-compared a.sync a.recording.now a.index.now _ _ c.loop-entry.invariant
+    (ended a.sync a.recording.now c.loop-entry.from (sym c.next-found.ensures ∙ c.in_default.is))
 
 -- the chunk that was found
-step : (c : tie.After-known-told invariant-loop decreases-loop)
-    → (let l = c.before.before.before.before in
-    let a = l.before.before.before.args in
-    Next a.sync a.recording.now l.loop.from c.before.found.given.0.0 c.before.found.given.0.1.0.0)
+step : (c : tie.In-Chunk invariant-loop-entry decreases-loop-entry)
+    → (let a = c.args in
+    Next a.sync a.recording.now c.loop-entry.from c.in-Chunk.entry c.in-Chunk.next.0)
 step c =
-    let l = c.before.before.before.before in
-    let a = l.before.before.before.args in
-    stepped a.sync a.recording.now l.loop.from c.before.found.given.0.0 c.before.found.given.0.1.0
-    (sym c.before.before.before.next.ensures ∙ c.before.found.given.1)
+    let a = c.args in
+    stepped a.sync a.recording.now c.loop-entry.from c.in-Chunk.entry c.in-Chunk.next
+    (sym c.next-found.ensures ∙ c.in-Chunk.is)
 
-returns-2 : tie.Need-returns-2 invariant-loop decreases-loop
+returns-2 : tie.Need-returns-then-not-entry_stands invariant-loop-entry decreases-loop-entry
 returns-2 c =
-    let k = c.before.before in
-    let l = k.before.before.before.before in
-    entry-differs _ _ _ _ _ l.loop.invariant _ _ (step k) (sym c.before.entry-stands.ensures ∙ not-true _ c.if1.true)
+    entry-differs _ _ _ _ _ c.loop-entry.invariant _ _ (step c.before.before) (sym c.entry_stands.ensures ∙ c.if-not-entry_stands.true)
 
-add_at : tie.Need-overflow-add-at invariant-loop decreases-loop
+add_at : tie.Need-overflow_add-at invariant-loop-entry decreases-loop-entry
 add_at c =
-    let b = c.before in
-    let k = b.before.before in
-    let l = k.before.before.before.before in
-    let a = l.before.before.before.args in
-    record { fits = omega (arith, entry-fits a.index.now l.loop.at k.before.found.given.0.0 (sym b.before.entry-stands.ensures ∙ not-false _ b.if1.false)) }
+    let a = c.args in
+    record { fits = omega (arith, entry-fits a.index.now c.loop-entry.at c.in-Chunk.entry (sym c.entry_stands.ensures ∙ c.if-not-entry_stands.false)) }
 
-loop-less : tie.Need-loop-smaller invariant-loop decreases-loop
-loop-less c = let k = c.before.before.before in omega (arith, (step k).ahead, (step k).within, (step k).end)
+loop-less : tie.Need-loop-entry-smaller invariant-loop-entry decreases-loop-entry
+loop-less c = omega (arith, (step c.before.before.before).ahead, (step c.before.before.before).within, (step c.before.before.before).end)
 
-loop-again : tie.Need-loop-preserved invariant-loop decreases-loop
+loop-again : tie.Need-loop-entry-preserved invariant-loop-entry decreases-loop-entry
 loop-again c =
-    let b = c.before in
-    let k = b.before.before in
-    let l = k.before.before.before.before in
-    let a = l.before.before.before.args in
-    entry-compared a.sync a.recording.now a.index.now _ _ l.loop.invariant _ _ (step k)
-    (sym b.before.entry-stands.ensures ∙ not-false _ b.if1.false)
+    let a = c.args in
+    entry-compared a.sync a.recording.now a.index.now _ _ c.loop-entry.invariant _ _ (step c.before.before.before)
+    (sym c.entry_stands.ensures ∙ c.if-not-entry_stands.false)
 
-pub agrees-spec : {M : Type 1} → statement M
-agrees-spec =
+pub agrees_spec : {M : Type 1} → statement M
+agrees_spec =
     tie.close
     (tie.spec
-    invariant-loop
-    decreases-loop
+    invariant-loop-entry
+    decreases-loop-entry
     loop-holds
     (λ c κs. search rules)
     (λ c. search rules)

@@ -10,20 +10,20 @@ use borrow.Author.Rules.{rules}
 use Rattle.reel.proofs.index.entry_stands.Statement.{statement}
 use Rattle.reel.proofs.index.entry_stands.Tie as tie
 
-returns : tie.Need-returns
-returns c = let a = c.before.before.before.args in entry-past-end a.index.now a.at.0 a.entry (omega arith)
+returns : tie.Need-returns-then-index
+returns c = let a = c.args in entry-past-end a.index.now a.at.0 a.entry (omega arith)
 
-returns-2 : tie.Need-returns-2
-returns-2 c = let a = c.before.before.before.before.before.args in entry-past-end a.index.now a.at.0 a.entry (omega arith)
+returns-2 : tie.Need-returns-then-index-i
+returns-2 c = let a = c.args in entry-past-end a.index.now a.at.0 a.entry (omega arith)
 
-returns-3 : tie.Need-returns-3
+returns-3 : tie.Need-returns
 returns-3 c =
-    let a = c.before.before.before.before.before.before.before.before.args in
-    ap (λ (w : ℕ). eqb w a.entry.position.0 && eqb (get_or a.index.now (a.at.0 + 1) 0) a.entry.header) c.before.wide.ensures.0
+    let a = c.args in
+    ap (λ (w : ℕ). eqb w a.entry.position.0 && eqb (get_or a.index.now (a.at.0 + 1) 0) a.entry.header) c.wide.ensures.0
     ∙ entry-by-words a.index.now a.at.0 a.entry (omega arith)
 
-pub entry-stands-spec : {M : Type 1} → statement M
-entry-stands-spec =
+pub entry_stands_spec : {M : Type 1} → statement M
+entry_stands_spec =
     tie.close
     (tie.spec
     returns

@@ -6,13 +6,11 @@ use Rattle.reel.proofs.trailer.trailer_of.Tie as tie
 
 returns : tie.Need-returns
 returns c =
-    let n = c.before.before in
-    let count = n.before.before in
-    let a = count.before.before.before.args in
-    (trailer-told a.reel.now count.wide.ensures.0 n.wide2.ensures.0, count.wide.ensures.1, n.wide2.ensures.1)
+    let a = c.args in
+    (trailer-told a.reel.now c.wide.ensures.0 c.wide-2.ensures.0, c.wide.ensures.1, c.wide-2.ensures.1)
 
-pub trailer-of-spec : {M : Type 1} → statement M
-trailer-of-spec =
+pub trailer_of_spec : {M : Type 1} → statement M
+trailer_of_spec =
     tie.close
     (tie.spec
     (λ c. search rules)
