@@ -10,31 +10,28 @@ use borrow.Author.Rules.{rules}
 use Rattle.reel_writing.proofs.judge.Statement.{statement}
 use Rattle.reel_writing.proofs.judge.Tie as tie
 
-returns : tie.Need-returns
-returns c = let a = c.before.before.before.args in too-long-refused a.sync a.recording.now a.room.0 c.if1.true
+returns : tie.Need-returns-then-recording
+returns c = let a = c.args in too-long-refused a.sync a.recording.now a.room.0 c.if-recording.true
 
-returns-2 : tie.Need-returns-2
+returns-2 : tie.Need-returns-then-reel_words-room
 returns-2 c =
-    let w = c.before.before.before in
-    let t = w.before.before.before in
-    let a = t.before.before.before.args in
-    room-enough a.sync a.recording.now a.room.0 t.if1.false (omega (arith, w.reel-words.ensures, c.if2.true))
+    let a = c.args in
+    room-enough a.sync a.recording.now a.room.0 c.if-recording.false (omega (arith, c.reel_words.ensures, c.if-reel_words-room.true))
 
-reel-words-requires-2 : tie.Need-reel-words-requires-2
+reel-words-requires-2 : tie.Need-reel_words-needed-requires
 reel-words-requires-2 c κs =
-    let a = c.before.before.before.before.before.before.before.before.before.before.args in
+    let a = c.args in
     (omega arith, omega (arith, few-chunks a.sync a.recording.now, ap (λ (s : Counts). s.chunks) c.count.ensures))
 
-returns-3 : tie.Need-returns-3
+returns-3 : tie.Need-returns
 returns-3 c =
-    let w = c.before.before.before in
-    let a = c.before.before.before.before.before.before.before.before.before.before.before.before.before.before.args in
+    let a = c.args in
     c.cause.ensures
-    ∙ room-compared a.sync a.recording.now a.room.0 c.before.before.before.before.before.before.before.before.before.before.before.if1.false _
-    (w.reel-words2.ensures ∙ ap (λ (s : Counts). reel_words (length a.recording.now) s.chunks) w.before.count.ensures)
+    ∙ room-compared a.sync a.recording.now a.room.0 c.if-recording.false _
+    (c.reel_words-needed.ensures ∙ ap (λ (s : Counts). reel_words (length a.recording.now) s.chunks) c.count.ensures)
 
-pub judge-spec : {M : Type 1} → statement M
-judge-spec =
+pub judge_spec : {M : Type 1} → statement M
+judge_spec =
     tie.close
     (tie.spec
     returns

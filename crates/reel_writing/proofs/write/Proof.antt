@@ -11,65 +11,49 @@ use borrow.Author.Rules.{rules}
 use Rattle.reel_writing.proofs.write.Statement.{statement}
 use Rattle.reel_writing.proofs.write.Tie as tie
 
-returns : tie.Need-returns
+returns : tie.Need-returns-then-verdict-ne0
 returns c =
-    let p = c.before.before in
-    let a = p.before.before.before.args in (
-      c.settle.ensures ∙ refused-reply a.sync a.recording.now a.room.now _ p.judge.ensures c.before.if1.true,
-      refused-untouched a.sync a.recording.now a.room.now _ p.judge.ensures c.before.if1.true,
+    let a = c.args in (
+      c.settle.ensures ∙ refused-reply a.sync a.recording.now a.room.now _ c.judge-verdict.ensures c.if-verdict-ne0.true,
+      refused-untouched a.sync a.recording.now a.room.now _ c.judge-verdict.ensures c.if-verdict-ne0.true,
     )
 
-write-requires : tie.Need-write-requires
+write-requires : tie.Need-write-count-requires
 write-requires c κs =
-    let w = c.before.before.before in
-    let k = w.before.before in
-    let p = k.before in
-    let a = p.before.before.before.args in
+    let a = c.args in
     let l : length (put a.recording.now 0 a.room.now) ≡ length a.room.now = put-length a.recording.now 0 a.room.now in (
-      accepted-short a.sync a.recording.now a.room.now _ p.judge.ensures k.if1.false,
-      omega (arith, accepted-fits a.sync a.recording.now a.room.now _ p.judge.ensures k.if1.false, ap length w.put-words.ensures, l),
+      accepted-short a.sync a.recording.now a.room.now _ c.judge-verdict.ensures c.if-verdict-ne0.false,
+      omega (arith, accepted-fits a.sync a.recording.now a.room.now _ c.judge-verdict.ensures c.if-verdict-ne0.false, ap length c.put_words.ensures, l),
     )
 
-put-trailer-requires : tie.Need-put-trailer-requires
+put-trailer-requires : tie.Need-put_trailer-requires
 put-trailer-requires c κs =
-    let v = c.before.before.before in
-    let w = v.before.before.before.before in
-    let k = w.before.before in
-    let p = k.before in
-    let a = p.before.before.before.args in
-    let n = v.write.ensures.0 in
-    let one = ap length w.put-words.ensures ∙ put-length _ _ _ in
-    let two = ap length v.write.ensures.1 ∙ put-length _ _ _ in (
-      accepted-short a.sync a.recording.now a.room.now _ p.judge.ensures k.if1.false,
+    let a = c.args in
+    let n = c.write-count.ensures.0 in
+    let one = ap length c.put_words.ensures ∙ put-length _ _ _ in
+    let two = ap length c.write-count.ensures.1 ∙ put-length _ _ _ in (
+      accepted-short a.sync a.recording.now a.room.now _ c.judge-verdict.ensures c.if-verdict-ne0.false,
       omega (arith, few-chunks a.sync a.recording.now),
-      omega (arith, accepted-fits a.sync a.recording.now a.room.now _ p.judge.ensures k.if1.false),
+      omega (arith, accepted-fits a.sync a.recording.now a.room.now _ c.judge-verdict.ensures c.if-verdict-ne0.false),
     )
 
-reel-words-requires : tie.Need-reel-words-requires
+reel-words-requires : tie.Need-reel_words-requires
 reel-words-requires c κs =
-    let v = c.before.before.before.before.before.before in
-    let k = v.before.before.before.before.before.before in
-    let p = k.before in
-    let a = p.before.before.before.args in
-    let n = v.write.ensures.0 in (
-      accepted-short a.sync a.recording.now a.room.now _ p.judge.ensures k.if1.false,
+    let a = c.args in
+    let n = c.write-count.ensures.0 in (
+      accepted-short a.sync a.recording.now a.room.now _ c.judge-verdict.ensures c.if-verdict-ne0.false,
       omega (arith, few-chunks a.sync a.recording.now),
     )
 
-returns-2 : tie.Need-returns-2
+returns-2 : tie.Need-returns
 returns-2 c =
-    let t = c.before.before.before.before in
-    let v = t.before.before.before.before in
-    let w = v.before.before.before.before in
-    let k = w.before.before in
-    let p = k.before in
-    let a = p.before.before.before.args in (
-      c.settle2.ensures
-          ∙ accepted-reply a.sync a.recording.now a.room.now _ p.judge.ensures k.if1.false _
-          (c.before.reel-words.ensures ∙ ap (reel_words (length a.recording.now)) v.write.ensures.0),
-      accepted-written a.sync a.recording.now a.room.now _ p.judge.ensures k.if1.false _
-          (reel-put a.sync a.recording.now a.room.now _ _ _ _ (accepted-fits a.sync a.recording.now a.room.now _ p.judge.ensures k.if1.false)
-          v.write.ensures.0 w.put-words.ensures v.write.ensures.1 t.put-trailer.ensures),
+    let a = c.args in (
+      c.settle-2.ensures
+          ∙ accepted-reply a.sync a.recording.now a.room.now _ c.judge-verdict.ensures c.if-verdict-ne0.false _
+          (c.reel_words.ensures ∙ ap (reel_words (length a.recording.now)) c.write-count.ensures.0),
+      accepted-written a.sync a.recording.now a.room.now _ c.judge-verdict.ensures c.if-verdict-ne0.false _
+          (reel-put a.sync a.recording.now a.room.now _ _ _ _ (accepted-fits a.sync a.recording.now a.room.now _ c.judge-verdict.ensures c.if-verdict-ne0.false)
+          c.write-count.ensures.0 c.put_words.ensures c.write-count.ensures.1 c.put_trailer.ensures),
     )
 
 pub write_spec : {M : Type 1} → statement M

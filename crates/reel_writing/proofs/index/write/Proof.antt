@@ -9,66 +9,59 @@ use Rattle.reel_writing.proofs.index.Indexed.{Indexed, none-indexed, entry-index
 use Rattle.reel_writing.proofs.index.write.Statement.{statement}
 use Rattle.reel_writing.proofs.index.write.Tie as tie
 
-abbrev invariant-loop : tie.invariant-loop
-invariant-loop recording sync room₀ n from₀ count₀ room from count = Indexed sync recording room₀ room from count
+abbrev invariant-loop-entry : tie.invariant-loop-entry
+invariant-loop-entry recording sync room₀ n from₀ count₀ room from count = Indexed sync recording room₀ room from count
 
-abbrev decreases-loop : tie.decreases-loop
-decreases-loop recording sync room₀ n from₀ count₀ room from count = length recording - from
+abbrev decreases-loop-entry : tie.decreases-loop-entry
+decreases-loop-entry recording sync room₀ n from₀ count₀ room from count = length recording - from
 
-loop-holds : tie.Need-loop-init invariant-loop decreases-loop
-loop-holds c = none-indexed _ _ _ c.before.before.requires.1
+loop-holds : tie.Need-loop-entry-init invariant-loop-entry decreases-loop-entry
+loop-holds c = none-indexed _ _ _ c.requires.1
 
-same_length : tie.Need-same-length invariant-loop decreases-loop
-same_length c = c.before.before.before.loop.invariant.long
+same_length : tie.Need-shape_of-room-in_default invariant-loop-entry decreases-loop-entry
+same_length c = c.loop-entry.invariant.long
 
-returns : tie.Need-returns invariant-loop decreases-loop
+returns : tie.Need-returns-in_default invariant-loop-entry decreases-loop-entry
 returns c =
-    let l = c.before.before.before in
-    let a = l.before.before.before.args in
-    all-indexed a.sync a.recording.now _ _ _ _ l.loop.invariant
-    (ended a.sync a.recording.now l.loop.from (sym c.before.before.next.ensures ∙ c.enum_told.given.1))
+    let a = c.args in
+    all-indexed a.sync a.recording.now _ _ _ _ c.loop-entry.invariant
+    (ended a.sync a.recording.now c.loop-entry.from (sym c.next-found.ensures ∙ c.in_default.is))
 
 -- the chunk that was found
-step : (c : tie.After-known-told invariant-loop decreases-loop)
-    → (let l = c.before.before.before.before in
-    let a = l.before.before.before.args in
-    Next a.sync a.recording.now l.loop.from c.before.found.given.0.0 c.before.found.given.0.1.0.0)
+step : (c : tie.In-Chunk invariant-loop-entry decreases-loop-entry)
+    → (let a = c.args in
+    Next a.sync a.recording.now c.loop-entry.from c.in-Chunk.entry c.in-Chunk.next.0)
 step c =
-    let l = c.before.before.before.before in
-    let a = l.before.before.before.args in
-    stepped a.sync a.recording.now l.loop.from c.before.found.given.0.0 c.before.found.given.0.1.0
-    (sym c.before.before.before.next.ensures ∙ c.before.found.given.1)
+    let a = c.args in
+    stepped a.sync a.recording.now c.loop-entry.from c.in-Chunk.entry c.in-Chunk.next
+    (sym c.next-found.ensures ∙ c.in-Chunk.is)
 
-mul_at : tie.Need-overflow-mul-at invariant-loop decreases-loop
-mul_at c = let l = c.before.before.before.before.before in record { fits = omega (arith, l.loop.invariant.fits) }
+mul_at : tie.Need-overflow_mul-at invariant-loop-entry decreases-loop-entry
+mul_at c = record { fits = omega (arith, c.loop-entry.invariant.fits) }
 
-add_at : tie.Need-overflow-add-at invariant-loop decreases-loop
-add_at c = let l = c.before.before.before.before.before in record { fits = omega (arith, l.loop.invariant.fits) }
+add_at : tie.Need-overflow_add-at invariant-loop-entry decreases-loop-entry
+add_at c = record { fits = omega (arith, c.loop-entry.invariant.fits) }
 
-put-entry-requires : tie.Need-put-entry-requires invariant-loop decreases-loop
+put-entry-requires : tie.Need-put_entry-requires invariant-loop-entry decreases-loop-entry
 put-entry-requires c κs =
-    let k = c.before.before in
-    omega (arith, (step k).within, (step k).end, k.before.before.before.before.before.before.before.requires.0)
+    omega (arith, (step c.before.before).within, (step c.before.before).end, c.requires.0)
 
-add-count : tie.Need-overflow-add-count invariant-loop decreases-loop
-add-count c = let l = c.before.before.before.before.before.before.before.before.before in record { fits = omega (arith, l.loop.invariant.fits) }
+add-count : tie.Need-overflow_add-count invariant-loop-entry decreases-loop-entry
+add-count c = record { fits = omega (arith, c.loop-entry.invariant.fits) }
 
-loop-less : tie.Need-loop-smaller invariant-loop decreases-loop
-loop-less c = let k = c.before.before.before.before.before in omega (arith, (step k).ahead, (step k).within, (step k).end)
+loop-less : tie.Need-loop-entry-smaller invariant-loop-entry decreases-loop-entry
+loop-less c = omega (arith, (step c.before.before.before.before.before).ahead, (step c.before.before.before.before.before).within, (step c.before.before.before.before.before).end)
 
-loop-again : tie.Need-loop-preserved invariant-loop decreases-loop
+loop-again : tie.Need-loop-entry-preserved invariant-loop-entry decreases-loop-entry
 loop-again c =
-    let p = c.before.before in
-    let k = p.before.before.before in
-    let l = k.before.before.before.before in
-    entry-indexed _ _ _ _ _ _ l.loop.invariant _ _ (step k) _ p.put-entry.ensures
+    entry-indexed _ _ _ _ _ _ c.loop-entry.invariant _ _ (step c.before.before.before.before.before) _ c.put_entry.ensures
 
 pub write_spec : {M : Type 1} → statement M
 write_spec =
     tie.close
     (tie.spec
-    invariant-loop
-    decreases-loop
+    invariant-loop-entry
+    decreases-loop-entry
     loop-holds
     (λ c κs. search rules)
     (λ c. search rules)

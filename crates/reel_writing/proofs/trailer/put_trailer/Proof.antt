@@ -6,14 +6,10 @@ use Rattle.reel_writing.proofs.trailer.put_trailer.Tie as tie
 
 returns : tie.Need-returns
 returns c =
-    let q = c.before.before in
-    let w = q.before.before.before in
-    let r = w.before.before.before.before.before in
-    let s = r.before.before.before.before.before in
-    trailer-put s.args.n.0 s.args.count _ s.args.room.now _ _ s.requires.2 r.put-words.ensures w.words.ensures q.put-words2.ensures
+    trailer-put c.args.n.0 c.args.count _ c.args.room.now _ _ c.requires.2 c.put_words.ensures c.words-crc.ensures c.put_words-2.ensures
 
-pub put-trailer-spec : {M : Type 1} → statement M
-put-trailer-spec =
+pub put_trailer_spec : {M : Type 1} → statement M
+put_trailer_spec =
     tie.close
     (tie.spec
     (λ c. search rules)
