@@ -2,3 +2,4 @@ pub mod Difference
 pub mod Lengths
 mod Replies
 pub mod Pairing
+pub mod Examples

@@ -1,33 +1,6 @@
--- FORMAT, "Comparing recordings": its example, and the three ways in which words can differ, by computation.
-use Rattle.std.specs.Prelude.{◌≡◌, refl, List, [], ◌∷◌, ◌++◌, ℕ, replicate}
-use Rattle.base.specs.Refusal.{answer}
-use Rattle.base_room.specs.Room.{put}
-use Rattle.chunk.specs.Header.{legal_size, legal, headed, ends, confirmed}
-use Rattle.chunk.specs.Reading.{listed}
-use Rattle.chunk.specs.Examples.{listing}
-use Rattle.chunk_compare.specs.declared.Pair.{Pair}
-use Rattle.chunk_compare.specs.Pairs.{differs, first_difference, paired}
-use Rattle.chunk_compare.specs.Compare.{compared, refused, compare_reply, compare_room}
-
--- a word differs, one is a prefix of the other, and nothing differs
-words : (first_difference (5 ∷ 6 ∷ 7 ∷ []) (5 ∷ 8 ∷ 7 ∷ []) ≡ differs 1)
-    × (first_difference (5 ∷ 6 ∷ []) (5 ∷ 6 ∷ 7 ∷ []) ≡ differs 2)
-    × (first_difference (5 ∷ []) [] ≡ differs 0)
-    × (first_difference (5 ∷ 6 ∷ []) (5 ∷ 6 ∷ []) ≡ Pair.Same)
-unfolding first_difference
-words = (refl, refl, refl, refl)
+-- FORMAT, "Comparing recordings": its example.
+use Rattle.std.specs.Prelude.{ℕ, List, ◌∷◌, ◌++◌, replicate}
 
 -- the recording of the listing as another station heard it: no noise before it, the fourth payload word of the image chunk is 1, and a chunk more
 abbrev pub heard : List ℕ
 heard = 0x5AF3 ∷ 0x2009 ∷ 0 ∷ 0 ∷ 0 ∷ 1 ∷ replicate 5 0 ++ 0x5AF3 ∷ 0x8020 ∷ replicate 32 0 ++ 0x5AF3 ∷ 0x0009 ∷ replicate 9 0
-
--- the image chunks differ at word 5, the health chunks are the same, and one chunk is left over
-pub listing_compared : (x y z : ℕ)
-    → (compare_reply 0x5AF3 listing heard 3 ≡ compared 0 2 0 1) × (compare_room 0x5AF3 listing heard (x ∷ y ∷ z ∷ []) ≡ 5 ∷ 0 ∷ z ∷ [])
-unfolding compare_reply compare_room answer put paired first_difference listed confirmed ends headed legal legal_size
-listing_compared x y z = (refl, refl)
-
--- a list of one entry is too small
-pub listing_refused : (x : ℕ) → (compare_reply 0x5AF3 listing heard 1 ≡ refused 3) × (compare_room 0x5AF3 listing heard (x ∷ []) ≡ x ∷ [])
-unfolding compare_reply compare_room answer put paired first_difference listed confirmed ends headed legal legal_size
-listing_refused x = (refl, refl)

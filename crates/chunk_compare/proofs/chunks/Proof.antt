@@ -5,37 +5,35 @@ use Rattle.chunk_compare.proofs.Difference.{Agreed, none-agreed, word-agreed, wo
 use Rattle.chunk_compare.proofs.chunks.Statement.{statement}
 use Rattle.chunk_compare.proofs.chunks.Tie as tie
 
-abbrev invariant-loop : tie.invariant-loop
-invariant-loop first second shorter at₀ at = Agreed first second at
+abbrev invariant-loop-at : tie.invariant-loop-at
+invariant-loop-at first second shorter at₀ at = Agreed first second at
 
-abbrev decreases-loop : tie.decreases-loop
-decreases-loop first second shorter at₀ at = shorter - at
+abbrev decreases-loop-at : tie.decreases-loop-at
+decreases-loop-at first second shorter at₀ at = shorter - at
 
-loop-holds : tie.Need-loop-init invariant-loop decreases-loop
+loop-holds : tie.Need-loop-at-init invariant-loop-at decreases-loop-at
 loop-holds c = none-agreed _ _
 
-returns : tie.Need-returns invariant-loop decreases-loop
+returns : tie.Need-returns-then-first-at invariant-loop-at decreases-loop-at
 returns c =
-    let l = c.before.before.before.before in
-    word-differs _ _ _ l.loop.invariant (search rules) (search rules) c.if1.true
+    word-differs _ _ _ c.loop-at.invariant (search rules) (search rules) c.if-first-at.true
 
-loop-again : tie.Need-loop-preserved invariant-loop decreases-loop
+loop-again : tie.Need-loop-at-preserved invariant-loop-at decreases-loop-at
 loop-again c =
-    let l = c.before.before.before.before in
-    word-agreed _ _ _ l.loop.invariant (search rules) (search rules) c.if1.false
+    word-agreed _ _ _ c.loop-at.invariant (search rules) (search rules) c.if-first-at.false
 
-returns-2 : tie.Need-returns-2 invariant-loop decreases-loop
-returns-2 c = all-agreed _ _ _ c.before.before.loop.invariant (search rules) (search rules)
+returns-2 : tie.Need-returns-then-first-second invariant-loop-at decreases-loop-at
+returns-2 c = all-agreed _ _ _ c.loop-at.invariant (search rules) (search rules)
 
-returns-3 : tie.Need-returns-3 invariant-loop decreases-loop
-returns-3 c = shorter-differs _ _ _ c.before.before.loop.invariant (search rules) c.if2.false
+returns-3 : tie.Need-returns invariant-loop-at decreases-loop-at
+returns-3 c = shorter-differs _ _ _ c.loop-at.invariant (search rules) c.if-first-second.false
 
-pub chunks-spec : {M : Type 1} → statement M
-chunks-spec =
+pub chunks_spec : {M : Type 1} → statement M
+chunks_spec =
     tie.close
     (tie.spec
-    invariant-loop
-    decreases-loop
+    invariant-loop-at
+    decreases-loop-at
     (λ c κs. search rules)
     loop-holds
     (λ c. search rules)
