@@ -6,11 +6,11 @@ use Rattle.exports.proofs.Bytes.{Small, small-judged}
 use Rattle.exports.proofs.hawserfen_judge_unit.Statement.{statement}
 use Rattle.exports.proofs.hawserfen_judge_unit.Tie as tie
 
-in-bytes-requires : tie.Need-in-bytes-requires
-in-bytes-requires c κs = (subst Small (sym c.judge-unit.ensures) (small-judged _)).word
+in-bytes-requires : tie.Need-in_bytes-requires
+in-bytes-requires c κs = (subst Small (sym c.judge_unit.ensures) (small-judged _)).word
 
 returns : tie.Need-returns
-returns c = c.in_bytes.ensures ∙ ap in_bytes c.before.judge-unit.ensures
+returns c = c.in_bytes.ensures ∙ ap in_bytes c.judge_unit.ensures
 
-pub hawserfen-judge-unit-spec : {M : Type 1} → statement M
-hawserfen-judge-unit-spec = tie.close (tie.spec (λ c κs. search rules) in-bytes-requires returns)
+pub hawserfen_judge_unit_spec : {M : Type 1} → statement M
+hawserfen_judge_unit_spec = tie.close (tie.spec (λ c κs. search rules) in-bytes-requires returns)

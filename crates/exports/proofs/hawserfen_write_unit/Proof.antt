@@ -7,11 +7,11 @@ use Rattle.exports.proofs.hawserfen_write_unit.Tie as tie
 
 returns : tie.Need-returns
 returns c =
-    let w = c.before.before.before.write-unit in
+    let w = c.write_unit in
     (c.written.ensures ∙ ap written w.ensures.0, w.ensures.1)
 
-pub hawserfen-write-unit-spec : {M : Type 1} → statement M
-hawserfen-write-unit-spec =
+pub hawserfen_write_unit_spec : {M : Type 1} → statement M
+hawserfen_write_unit_spec =
     tie.close
     (tie.spec
     (λ c κs. search rules)

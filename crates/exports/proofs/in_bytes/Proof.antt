@@ -8,8 +8,8 @@ returns : tie.Need-returns
 unfolding in_bytes
 returns c = search rules
 
-pub in-bytes-spec : {M : Type 1} → statement M
-in-bytes-spec =
+pub in_bytes_spec : {M : Type 1} → statement M
+in_bytes_spec =
     tie.close
     (tie.spec
     (λ c. search rules)

@@ -8,8 +8,8 @@ returns : tie.Need-returns
 unfolding in_words
 returns c = search rules
 
-pub in-words-spec : {M : Type 1} → statement M
-in-words-spec =
+pub in_words_spec : {M : Type 1} → statement M
+in_words_spec =
     tie.close
     (tie.spec
     (λ c. search rules)

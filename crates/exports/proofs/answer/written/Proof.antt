@@ -6,10 +6,10 @@ use Rattle.exports.proofs.answer.written.Tie as tie
 
 returns : tie.Need-returns
 unfolding written
-returns c = c.in_words_lem.ensures
+returns c = c.in_words.ensures
 
-pub written-spec : {M : Type 1} → statement M
-written-spec =
+pub written_spec : {M : Type 1} → statement M
+written_spec =
     tie.close
     (tie.spec
     (λ c κs. search rules)

@@ -11,18 +11,17 @@ use Rattle.exports.proofs.commands.hawserfen_write_command.Tie as tie
 returns : tie.Need-returns
 unfolding sent
 returns c =
-    let wrote = c.before.before.before in
-    let w = wrote.write.ensures in
-    let u = wrote.before.before.unpacked.ensures in
-    let a = wrote.before.before.before.before.before.args in
+    let w = c.write-s.ensures in
+    let u = c.unpacked.ensures in
+    let a = c.args in
     let bytes = a.further.now in
     let room = a.room.now in (
-      c.in_words_lem.ensures ∙ ap sent (w.0 ∙ ap (λ (f : Fields). write_reply a.catalogue a.mode f bytes (length room)) u),
+      c.in_words.ensures ∙ ap sent (w.0 ∙ ap (λ (f : Fields). write_reply a.catalogue a.mode f bytes (length room)) u),
       w.1 ∙ ap (λ (f : Fields). write_room a.catalogue a.mode f bytes room) u,
     )
 
-pub hawserfen-write-command-spec : {M : Type 1} → statement M
-hawserfen-write-command-spec =
+pub hawserfen_write_command_spec : {M : Type 1} → statement M
+hawserfen_write_command_spec =
     tie.close
     (tie.spec
     (λ c κs. search rules)

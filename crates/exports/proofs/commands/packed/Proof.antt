@@ -8,8 +8,8 @@ returns : tie.Need-returns
 unfolding packed
 returns c = search rules
 
-pub packed-spec : {M : Type 1} → statement M
-packed-spec =
+pub packed_spec : {M : Type 1} → statement M
+packed_spec =
     tie.close
     (tie.spec
     (λ c κs. search rules)

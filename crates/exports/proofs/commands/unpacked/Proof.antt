@@ -9,21 +9,20 @@ use Rattle.exports.proofs.commands.unpacked.Tie as tie
 returns : tie.Need-returns
 unfolding unpacked
 returns c =
-    let typed = c.before.before.before in
-    let kind = typed.before.before.low-word.ensures in
-    let t = typed.high_byte.ensures ∙ ap high_byte kind in
-    let q = c.before.before.low-byte.ensures ∙ ap low_byte kind in
+    let kind = c.low_word-kind.ensures in
+    let t = c.high_byte.ensures ∙ ap high_byte kind in
+    let q = c.low_byte.ensures ∙ ap low_byte kind in
     λ i.
     record {
-      sequence = typed.before.low-word2.ensures i;
+      sequence = c.low_word.ensures i;
       command_type = t i;
       qualifier = q i;
-      address = c.before.low-word3.ensures i;
-      «data» = c.low-word4.ensures i;
+      address = c.low_word-2.ensures i;
+      «data» = c.low_word-3.ensures i;
     }
 
-pub unpacked-spec : {M : Type 1} → statement M
-unpacked-spec =
+pub unpacked_spec : {M : Type 1} → statement M
+unpacked_spec =
     tie.close
     (tie.spec
     (λ c κs. search rules)

@@ -8,11 +8,11 @@ use Rattle.exports.proofs.packets.hawserfen_last_place.Tie as tie
 returns : tie.Need-returns
 unfolding placed
 returns c =
-    let p = c.before.before.before.last-place in
-    c.in_words_lem.ensures ∙ ap (in_words p.result.refusal p.result.recording p.result.at.0) c.before.flag.ensures.0 ∙ ap placed p.ensures
+    let p = c.last_place-p in
+    c.in_words.ensures ∙ ap (in_words p.result.refusal p.result.recording p.result.at.0) c.flag.ensures.0 ∙ ap placed p.ensures
 
-pub hawserfen-last-place-spec : {M : Type 1} → statement M
-hawserfen-last-place-spec =
+pub hawserfen_last_place_spec : {M : Type 1} → statement M
+hawserfen_last_place_spec =
     tie.close
     (tie.spec
     (λ c κs. search rules)

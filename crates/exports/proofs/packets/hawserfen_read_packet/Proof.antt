@@ -5,31 +5,26 @@ use Rattle.exports.proofs.packets.Reading.{not-read, too_small, is_read}
 use Rattle.exports.proofs.packets.hawserfen_read_packet.Statement.{statement}
 use Rattle.exports.proofs.packets.hawserfen_read_packet.Tie as tie
 
-returns : tie.Need-returns
+returns : tie.Need-returns-then-p-ne0
 returns c =
-    let r = c.before.before in
-    let a = r.before.before.before.args in
-    let n = not-read a.packet.now a.room.now r.read-packet.result r.read-packet.ensures c.before.if1.true in
-    (c.in_words_lem.ensures ∙ n.0, n.1)
+    let a = c.args in
+    let n = not-read a.packet.now a.room.now c.read_packet-p.result c.read_packet-p.ensures c.if-p-ne0.true in
+    (c.in_words.ensures ∙ n.0, n.1)
 
-returns-2 : tie.Need-returns-2
+returns-2 : tie.Need-returns-then-room-lt29
 returns-2 c =
-    let r = c.before.before.before in
-    let a = r.before.before.before.args in
-    let n = too_small a.packet.now a.room.now r.read-packet.result r.read-packet.ensures c.before.before.if1.false c.before.if2.true in
-    (c.in-words2.ensures ∙ n.0, n.1)
+    let a = c.args in
+    let n = too_small a.packet.now a.room.now c.read_packet-p.result c.read_packet-p.ensures c.if-p-ne0.false c.if-room-lt29.true in
+    (c.in_words-then-room-lt29.ensures ∙ n.0, n.1)
 
-returns-3 : tie.Need-returns-3
+returns-3 : tie.Need-returns
 returns-3 c =
-    let put = c.before.before.before in
-    let k = put.before.before.before.before.before in
-    let r = k.before.before in
-    let a = r.before.before.before.args in
-    let n = is_read a.packet.now a.room.now r.read-packet.result r.read-packet.ensures k.before.if1.false k.if2.false in
-    (c.in-words3.ensures ∙ n.0, put.put-words.ensures ∙ n.1)
+    let a = c.args in
+    let n = is_read a.packet.now a.room.now c.read_packet-p.result c.read_packet-p.ensures c.if-p-ne0.false c.if-room-lt29.false in
+    (c.in_words-2.ensures ∙ n.0, c.put_words.ensures ∙ n.1)
 
-pub hawserfen-read-packet-spec : {M : Type 1} → statement M
-hawserfen-read-packet-spec =
+pub hawserfen_read_packet_spec : {M : Type 1} → statement M
+hawserfen_read_packet_spec =
     tie.close
     (tie.spec
     (λ c κs. search rules)

@@ -7,10 +7,10 @@ use Rattle.exports.proofs.recordings.hawserfen_outline.Tie as tie
 
 returns : tie.Need-returns
 unfolding outlined
-returns c = c.in_words_lem.ensures ∙ ap outlined c.before.outline.ensures
+returns c = c.in_words.ensures ∙ ap outlined c.outline-runs.ensures
 
-pub hawserfen-outline-spec : {M : Type 1} → statement M
-hawserfen-outline-spec =
+pub hawserfen_outline_spec : {M : Type 1} → statement M
+hawserfen_outline_spec =
     tie.close
     (tie.spec
     (λ c κs. search rules)

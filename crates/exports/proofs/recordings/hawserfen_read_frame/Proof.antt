@@ -9,17 +9,16 @@ use Rattle.exports.proofs.recordings.hawserfen_read_frame.Tie as tie
 returns : tie.Need-returns
 unfolding framed
 returns c =
-    let flagged = c.before.before in
-    let f = flagged.before.before.before.before.read in (
-      c.in_words_lem.ensures
+    let f = c.read-f in (
+      c.in_words.ensures
           ∙ ap₂ (λ (a b : ℕ). in_words f.result.refusal f.result.chunks f.result.length.0 (f.result.camera + (a + b)))
-          flagged.before.flag.ensures.0 flagged.flag2.ensures.0
+          c.flag.ensures.0 c.flag-2.ensures.0
           ∙ ap framed f.ensures.0,
       f.ensures.1,
     )
 
-pub hawserfen-read-frame-spec : {M : Type 1} → statement M
-hawserfen-read-frame-spec =
+pub hawserfen_read_frame_spec : {M : Type 1} → statement M
+hawserfen_read_frame_spec =
     tie.close
     (tie.spec
     (λ c κs. search rules)

@@ -7,10 +7,10 @@ use Rattle.exports.proofs.recordings.hawserfen_read_reel.Tie as tie
 
 returns : tie.Need-returns
 unfolding reeled
-returns c = c.in_words_lem.ensures ∙ ap reeled c.before.read.ensures
+returns c = c.in_words.ensures ∙ ap reeled c.read-r.ensures
 
-pub hawserfen-read-reel-spec : {M : Type 1} → statement M
-hawserfen-read-reel-spec =
+pub hawserfen_read_reel_spec : {M : Type 1} → statement M
+hawserfen_read_reel_spec =
     tie.close
     (tie.spec
     (λ c κs. search rules)

@@ -8,11 +8,11 @@ use Rattle.exports.proofs.recordings.hawserfen_survey.Tie as tie
 returns : tie.Need-returns
 unfolding surveyed
 returns c =
-    let s = c.before.before.survey in
-    c.in_words_lem.ensures ∙ ap (in_words s.result.refusal s.result.chunks s.result.skipped.0) c.before.flag.ensures.0 ∙ ap surveyed s.ensures
+    let s = c.survey-s in
+    c.in_words.ensures ∙ ap (in_words s.result.refusal s.result.chunks s.result.skipped.0) c.flag.ensures.0 ∙ ap surveyed s.ensures
 
-pub hawserfen-survey-spec : {M : Type 1} → statement M
-hawserfen-survey-spec =
+pub hawserfen_survey_spec : {M : Type 1} → statement M
+hawserfen_survey_spec =
     tie.close
     (tie.spec
     (λ c κs. search rules)

@@ -7,11 +7,11 @@ use Rattle.exports.proofs.recordings.hawserfen_write_reel.Tie as tie
 
 returns : tie.Need-returns
 returns c =
-    let w = c.before.before.before.write in
+    let w = c.write in
     (c.written.ensures ∙ ap written w.ensures.0, w.ensures.1)
 
-pub hawserfen-write-reel-spec : {M : Type 1} → statement M
-hawserfen-write-reel-spec =
+pub hawserfen_write_reel_spec : {M : Type 1} → statement M
+hawserfen_write_reel_spec =
     tie.close
     (tie.spec
     (λ c κs. search rules)
