@@ -1,6 +1,6 @@
 -- `parity_rows::parity` meets its contract: the whole rows, and the row after them; those further on are past the data.
-use mathlib.Core.Path.{ap, ◌∙◌}
-use Prim.Native.Nat.{◌+◌}
+use mathlib.Core.Path.{◌≡◌, ap, ◌∙◌}
+use Prim.Native.Nat.{◌+◌, ◌<◌}
 use native.Mathlib.Omega.{arith}
 use borrow.Author.Rules.{rules}
 use Rattle.parity_rows.specs.ByRows.{sums_of}
@@ -8,17 +8,13 @@ use Rattle.parity_rows.proofs.ByRows.{next-sums, enough-rows, all-rows}
 use Rattle.parity_rows.proofs.parity.Statement.{statement}
 use Rattle.parity_rows.proofs.parity.Tie as tie
 
-returns : tie.Need-returns-then-whole-eq64
+returns : tie.Need-returns
 returns c =
     let d = c.args.«data».now in
-    c.whole_rows-s.ensures ∙ ap (sums_of d) c.if-whole-eq64.true ∙ all-rows d
-
-returns-2 : tie.Need-returns
-returns-2 c =
-    let d = c.args.«data».now in
     let n = c.whole_in-whole.result in
-    next-sums d n (omega (arith, c.whole_in-whole.ensures, c.if-whole-eq64.false)) c.whole_rows-s.ensures c.last_row.ensures c.add.ensures
-    ∙ enough-rows d (n + 1) (omega (arith, c.whole_in-whole.ensures, c.if-whole-eq64.false)) (omega (arith, c.whole_in-whole.ensures, c.if-whole-eq64.false)) ∙ all-rows d
+    let few : n < 64 = omega (arith, c.whole_in-whole.ensures) in
+    next-sums d n few c.whole_rows-s.ensures c.last_row.ensures c.add.ensures
+    ∙ enough-rows d (n + 1) (omega (arith, few)) (omega (arith, few, c.whole_in-whole.ensures)) ∙ all-rows d
 
 pub parity_spec : {M : Type 1} → statement M
 parity_spec =
@@ -26,8 +22,10 @@ parity_spec =
     (tie.spec
     (λ c κs. search rules)
     (λ c κs. search rules)
-    returns
+    (λ c. let d = c.args.«data».now in
+        let all : c.whole_in-whole.result ≡ 64 = omega arith in
+        c.whole_rows-s.ensures ∙ ap (sums_of d) all ∙ all-rows d)
     (λ c. search rules)
     (λ c κs. search rules)
     (λ c κs. search rules)
-    returns-2)
+    returns)
