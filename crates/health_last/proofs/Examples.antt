@@ -1,14 +1,13 @@
 -- Worked examples, by computation: a science recording of one health chunk, alone or before an image chunk, and a health recording of one packet or two.
-use Rattle.std.specs.Prelude.{◌≡◌, ℕ, true, false, List, [], ◌∷◌, ◌++◌, replicate, refl}
+use Rattle.std.specs.Prelude.{◌≡◌, ℕ, true, false, [], ◌∷◌, ◌++◌, replicate, refl}
 use Rattle.std.proofs.Common.{eq-eqb}
 use Rattle.base.specs.Refusal.{answer}
 use Rattle.crc.specs.Crc.{crc_bit, crc_step}
 use Rattle.chunk.specs.Header.{legal_size, legal, headed, ends, confirmed, at_end}
 use Rattle.chunk.specs.Reading.{listed}
 use Rattle.health.specs.Packet.{body_width, packet_crc, sound_packet}
-use Rattle.health.specs.Writing.{written_crc, packet_from}
+use Rattle.health.specs.Writing.{written_crc}
 use Rattle.health_places.specs.Packets.{packet_places, chunk_places, places_of, sound_of}
-use Rattle.health_last.specs.declared.Place.{Place}
 use Rattle.health_last.specs.Packets.{in_end, science_end, last_where}
 use Rattle.health_last.specs.Last.{place, refused, newer, time_at, place_in, shown, newest, last_place_reply}
 use Rattle.health_last.specs.Examples.{packet, asked, between}
