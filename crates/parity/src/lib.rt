@@ -71,6 +71,7 @@ fn five_cases(r: u32, c: u32, row: usize, column: usize, k: Words) -> Judged
 }
 
 // What stands in a unit, without its data.
+#[inline(always)]
 pub fn judge_unit(unit: &[u16]) -> Judged
     ensures { result ≡ judge_reply unit.now }
 {
