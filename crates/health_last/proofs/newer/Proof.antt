@@ -9,22 +9,25 @@ returns c =
     let a = c.args in
     sym (not_after a.science a.health (inl (sym c.ahead-ahead.ensures ∙ c.if-ahead-eq0.true)))
 
-returns-2 : tie.Need-returns-then-ahead-le32767
+returns-2 : tie.Need-returns-then-ahead
 returns-2 c =
-    let d = c.ahead-ahead.ensures in
-    let a = c.args in
-    sym (after a.science a.health (omega (arith, d, c.if-ahead-eq0.false)) (omega (arith, d, c.if-ahead-le32767.true)))
-
-returns-3 : tie.Need-returns-then-ahead
-returns-3 c =
     let a = c.args in
     sym (half a.science a.health (sym c.ahead-ahead.ensures ∙ c.if-ahead.true))
 
-returns-4 : tie.Need-returns
-returns-4 c =
+returns-3 : tie.Need-returns
+returns-3 c =
     let d = c.ahead-ahead.ensures in
     let a = c.args in
-    sym (not_after a.science a.health (inr (omega (arith, d, c.if-ahead-le32767.false, c.if-ahead.false))))
+    sym (not_after a.science a.health (inr (omega (arith, d))))
 
 pub newer_spec : {M : Type 1} → statement M
-newer_spec = tie.close (tie.spec (λ c. search rules) returns returns-2 returns-3 returns-4)
+newer_spec =
+    tie.close
+    (tie.spec
+    (λ c. search rules)
+    returns
+    (λ c. let d = c.ahead-ahead.ensures in
+    let a = c.args in
+    sym (after a.science a.health (omega (arith, d)) (omega (arith, d))))
+    returns-2
+    returns-3)
