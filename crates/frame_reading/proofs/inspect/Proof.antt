@@ -1,12 +1,13 @@
 -- `frame_reading::inspect` meets its contract: what `at` refuses is refused, and a frame that is cut or damaged.
 use mathlib.Core.Path.{◌≡◌, sym, ap, ◌∙◌}
+use mathlib.Core.Bool.{true, false}
 use Prim.Native.Nat.{◌≤◌}
 use lib.ListN.{length, drop}
 use native.Mathlib.Omega.{arith}
 use borrow.Author.Tests.{not-true, not-false}
 use Rattle.frame_reading.proofs.Asking.{refused-not, part, harm-here, judged-inside, chunks-within, judge-kept, cut, damaged, undamaged}
 use borrow.Author.Rules.{rules}
-use Rattle.base.specs.Refusal.{frame_cut, wrong_parity}
+use Rattle.base.specs.Refusal.{frame_cut}
 use Rattle.parity_units.specs.declared.Harm.{Harm}
 use Rattle.parity_units.specs.Replies.{harm_to}
 use Rattle.frame.specs.Picture.{frame_units}
@@ -56,19 +57,12 @@ inspect-requires : tie.Need-inspect-harm-requires
 inspect-requires c κs =
     chunks-within c.args.sync c.args.place.0 c.args.recording.now _ c.at-frame.ensures c.if-frame-ne0.false
 
-returns-3 : tie.Need-returns-then-harm
-returns-3 c = (
-  c.untouched-then-harm.ensures ∙ c.refused-then-harm.ensures
-      ∙ damaged c.args.sync c.args.place.0 c.args.recording.now _ c.at-frame.ensures c.if-frame-ne0.false
-      (not-false c.at-frame.result.complete c.if-not-frame.false) _ (ap (λ (h : Harm). h.damaged) (found c.before.before.before.before.before c.inspect-harm.ensures)) c.if-harm.true,
-  λ z. absurd (refused-not wrong_parity (omega arith) _ (c.untouched-then-harm.ensures ∙ c.refused-then-harm.ensures) z),
-)
-
-returns-4 : tie.Need-returns
-returns-4 c =
+returns-3 : tie.Need-returns
+returns-3 c =
+    let whole : c.inspect-harm.result.damaged ≡ false = search rules in
     let h = found c.before.before.before c.inspect-harm.ensures in (
       undamaged c.args.sync c.args.place.0 c.args.recording.now _ c.at-frame.ensures c.if-frame-ne0.false
-          (not-false c.at-frame.result.complete c.if-not-frame.false) _ (ap (λ (x : Harm). x.damaged) h) c.if-harm.false,
+          (not-false c.at-frame.result.complete c.if-not-frame.false) _ (ap (λ (x : Harm). x.damaged) h) whole,
       λ z. ap (λ (x : Harm). x.touched) h,
     )
 
@@ -89,5 +83,8 @@ inspect_spec =
     inspect-requires
     (λ c κs. search rules)
     (λ c κs. search rules)
-    returns-3
-    returns-4)
+    (λ c. let hurt : c.inspect-harm.result.damaged ≡ true = search rules in
+    let said = damaged c.args.sync c.args.place.0 c.args.recording.now _ c.at-frame.ensures c.if-frame-ne0.false
+    (not-false c.at-frame.result.complete c.if-not-frame.false) _ (ap (λ (h : Harm). h.damaged) (found c.before.before.before.before.before c.inspect-harm.ensures)) hurt in
+    (search (rules, said), λ z. search rules))
+    returns-3)

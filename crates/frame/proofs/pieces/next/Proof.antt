@@ -45,22 +45,16 @@ returns c =
     ∙ sym (frame-next c.args.sync c.args.words.now c.loop-entry.at (e c.before.before.before.before.before.before) (q c.before.before.before.before.before.before) (step c.before.before.before.before.before.before) (sym c.starts.ensures ∙ c.if-starts.true))
     ∙ c.loop-entry.invariant
 
-returns-2 : tie.Need-returns-then-kind_of-eq0 invariant-loop-entry decreases-loop-entry
-returns-2 c =
-    ap (λ (n : ℕ). Piece.Stray (e c.before.before.before.before.before) (record { 0 = n })) (step c.before.before.before.before.before).end
-    ∙ sym (stray-next c.args.sync c.args.words.now c.loop-entry.at (e c.before.before.before.before.before) (q c.before.before.before.before.before) (step c.before.before.before.before.before) (sym c.kind_of.ensures ∙ c.if-kind_of-eq0.true) (sym c.starts.ensures ∙ c.if-starts.false))
-    ∙ c.loop-entry.invariant
-
 loop-less : tie.Need-loop-entry-smaller invariant-loop-entry decreases-loop-entry
 loop-less c = omega (arith, (step c.before.before.before).end, (step c.before.before.before).ahead, (step c.before.before.before).within)
 
 loop-again : tie.Need-loop-entry-preserved invariant-loop-entry decreases-loop-entry
 loop-again c =
-    sym (health-passed c.args.sync c.args.words.now c.loop-entry.at (e c.before.before.before) (q c.before.before.before) (step c.before.before.before) (λ z. c.if-kind_of-eq0.false (c.kind_of.ensures ∙ z)))
+    sym (health-passed c.args.sync c.args.words.now c.loop-entry.at (e c.before.before.before) (q c.before.before.before) (step c.before.before.before) (λ z. omega (arith, c.kind_of.ensures ∙ z)))
     ∙ c.loop-entry.invariant
 
-returns-3 : tie.Need-returns-in-End invariant-loop-entry decreases-loop-entry
-returns-3 c =
+returns-2 : tie.Need-returns-in-End invariant-loop-entry decreases-loop-entry
+returns-2 c =
     sym (no-piece c.args.sync c.args.words.now c.loop-entry.at (sym c.next-found.ensures ∙ c.in-End.is)) ∙ c.loop-entry.invariant
 
 pub next_spec : {M : Type 1} → statement M
@@ -76,8 +70,12 @@ next_spec =
     (λ c κs. search rules)
     frame-there-requires
     returns
-    returns-2
+    (λ c. let k = c.before.before.before.before.before in
+    let image : c.kind_of.result ≡ 0 = omega arith in
+    ap (λ (n : ℕ). Piece.Stray (e k) (record { 0 = n })) (step k).end
+    ∙ sym (stray-next c.args.sync c.args.words.now c.loop-entry.at (e k) (q k) (step k) (sym c.kind_of.ensures ∙ image) (sym c.starts.ensures ∙ c.if-starts.false))
+    ∙ c.loop-entry.invariant)
     loop-less
     loop-again
     (λ c. search rules)
-    returns-3)
+    returns-2)
