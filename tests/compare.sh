@@ -71,8 +71,8 @@ printf 'pair 1 same\nleft 0 0\n' >"$work/alone"
 expect 'from another folder' "$work/alone" elsewhere cameras.first ./cameras.first
 expect 'slowly' crates/compare/stdout compare <(python3 tests/slowly.py "${example[0]}" 1 2 3) <(python3 tests/slowly.py "${example[1]}" 5 1)
 
-# a megabyte of stack is plenty; the kit's emulator asks its own variable
-small_stack() { (ulimit -S -s 1024 && QEMU_STACK_SIZE=1048576 compare "$@"); }
+# a megabyte of stack is plenty
+small_stack() { (ulimit -S -s 1024 && compare "$@"); }
 python3 tests/compare_second.py "$work"/limit_last_pair.{first,second} >"$work/answer" || exit 1
 expect 'on a small stack' "$work/answer" small_stack "$work"/limit_last_pair.{first,second}
 

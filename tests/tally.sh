@@ -108,8 +108,8 @@ expect 'no room for the output, and no file' /dev/null "$work/full" into_full
 expect 'from another folder' "$work/packets.out" /dev/null env -C "$work" "$here/hawserfen" tally packets.rec
 expect 'slowly' "$work/twice" /dev/null tally <(python3 tests/slowly.py "$work/packets.rec" 1 2 511) <(python3 tests/slowly.py "$work/packets.rec" 1023 64)
 
-# a megabyte of stack is plenty; the kit's emulator asks its own variable
-small_stack() { (ulimit -S -s 1024 && QEMU_STACK_SIZE=1048576 tally "$@"); }
+# a megabyte of stack is plenty
+small_stack() { (ulimit -S -s 1024 && tally "$@"); }
 python3 tests/tally_second.py "$work"/limit_*.rec >"$work/answer" || exit 1
 expect 'on a small stack' "$work/answer" /dev/null small_stack "$work"/limit_*.rec
 

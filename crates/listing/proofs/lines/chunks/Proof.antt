@@ -8,38 +8,36 @@ use Rattle.chunk.proofs.Steps.{Next, stepped}
 use Rattle.listing.proofs.lines.chunks.Statement.{statement}
 use Rattle.listing.proofs.lines.chunks.Tie as tie
 
-abbrev invariant-loop : tie.invariant-loop
-invariant-loop page₀ words sync said₀ at₀ page said at = Unit {0}
+abbrev invariant-loop-entry : tie.invariant-loop-entry
+invariant-loop-entry rt page₀ words sync said₀ at₀ page said at = Unit {0}
 
-abbrev decreases-loop : tie.decreases-loop
-decreases-loop page₀ words sync said₀ at₀ page said at = length words - at
+abbrev decreases-loop-entry : tie.decreases-loop-entry
+decreases-loop-entry rt page₀ words sync said₀ at₀ page said at = length words - at
 
-loop-holds : tie.Need-loop-init invariant-loop decreases-loop
+loop-holds : tie.Need-loop-entry-init invariant-loop-entry decreases-loop-entry
 loop-holds c = tt
 
 -- the chunk that was found
-step : (c : tie.After-known-told invariant-loop decreases-loop)
-    → (let l = c.before.before.before.before in
-    let a = l.before.before.args in
-    Next a.sync a.words.now l.loop.at c.before.found.given.0.0 c.before.found.given.0.1.0.0)
+step : (c : tie.In-Chunk invariant-loop-entry decreases-loop-entry)
+    → (let a = c.args in
+    Next a.sync a.words.now c.loop-entry.at c.in-Chunk.entry c.in-Chunk.next.0)
 step c =
-    let l = c.before.before.before.before in
-    let a = l.before.before.args in
-    stepped a.sync a.words.now l.loop.at c.before.found.given.0.0 c.before.found.given.0.1.0
-    (sym c.before.before.before.next.ensures ∙ c.before.found.given.1)
+    let a = c.args in
+    stepped a.sync a.words.now c.loop-entry.at c.in-Chunk.entry c.in-Chunk.next
+    (sym c.next-found.ensures ∙ c.in-Chunk.is)
 
-loop-less : tie.Need-loop-smaller invariant-loop decreases-loop
-loop-less c = let k = c.before.before in omega (arith, (step k).end, (step k).ahead, (step k).within)
+loop-less : tie.Need-loop-entry-smaller invariant-loop-entry decreases-loop-entry
+loop-less c = omega (arith, (step c.before.before).end, (step c.before.before).ahead, (step c.before.before).within)
 
-loop-again : tie.Need-loop-preserved invariant-loop decreases-loop
+loop-again : tie.Need-loop-entry-preserved invariant-loop-entry decreases-loop-entry
 loop-again c = tt
 
-pub chunks-spec : {M : Type 1} → statement M
-chunks-spec =
+pub chunks_spec : {M : Type 1} → statement M
+chunks_spec =
     tie.close
     (tie.spec
-    invariant-loop
-    decreases-loop
+    invariant-loop-entry
+    decreases-loop-entry
     loop-holds
     (λ c κs. search rules)
     (λ c. search rules)

@@ -8,43 +8,39 @@ use Rattle.frame.proofs.Ahead.{ahead}
 use Rattle.listing.proofs.lines.frames_and_strays.Statement.{statement}
 use Rattle.listing.proofs.lines.frames_and_strays.Tie as tie
 
-abbrev invariant-loop : tie.invariant-loop
-invariant-loop page₀ words sync said₀ at₀ page said at = Unit {0}
+abbrev invariant-loop-place : tie.invariant-loop-place
+invariant-loop-place rt page₀ words sync said₀ at₀ page said at = Unit {0}
 
-abbrev decreases-loop : tie.decreases-loop
-decreases-loop page₀ words sync said₀ at₀ page said at = length words - at
+abbrev decreases-loop-place : tie.decreases-loop-place
+decreases-loop-place rt page₀ words sync said₀ at₀ page said at = length words - at
 
-loop-holds : tie.Need-loop-init invariant-loop decreases-loop
+loop-holds : tie.Need-loop-place-init invariant-loop-place decreases-loop-place
 loop-holds c = tt
 
-loop-less : tie.Need-loop-smaller invariant-loop decreases-loop
+loop-less : tie.Need-loop-place-smaller-in-Frame invariant-loop-place decreases-loop-place
 loop-less c =
-    let p = c.before.before.before in
-    let l = p.before.before.before in
-    let a = l.before.before.args in
-    let on = ahead a.sync a.words.now l.loop.at _ (sym p.piece.given.1 ∙ p.before.before.next.ensures) in
+    let a = c.args in
+    let on = ahead a.sync a.words.now c.loop-place.at _ (sym c.in-Frame.is ∙ c.next-piece.ensures) in
     omega (arith, on.0, on.1)
 
-loop-again : tie.Need-loop-preserved invariant-loop decreases-loop
+loop-again : tie.Need-loop-place-preserved-in-Frame invariant-loop-place decreases-loop-place
 loop-again c = tt
 
-loop-less-2 : tie.Need-loop-smaller-2 invariant-loop decreases-loop
+loop-less-2 : tie.Need-loop-place-smaller invariant-loop-place decreases-loop-place
 loop-less-2 c =
-    let p = c.before.before.before in
-    let l = p.before.before.before in
-    let a = l.before.before.args in
-    let on = ahead a.sync a.words.now l.loop.at _ (sym p.piece2.given.1 ∙ p.before.before.next.ensures) in
+    let a = c.args in
+    let on = ahead a.sync a.words.now c.loop-place.at _ (sym c.in-Stray.is ∙ c.next-piece.ensures) in
     omega (arith, on.0, on.1)
 
-loop-again-2 : tie.Need-loop-preserved-2 invariant-loop decreases-loop
+loop-again-2 : tie.Need-loop-place-preserved invariant-loop-place decreases-loop-place
 loop-again-2 c = tt
 
-pub frames-and-strays-spec : {M : Type 1} → statement M
-frames-and-strays-spec =
+pub frames_and_strays_spec : {M : Type 1} → statement M
+frames_and_strays_spec =
     tie.close
     (tie.spec
-    invariant-loop
-    decreases-loop
+    invariant-loop-place
+    decreases-loop-place
     loop-holds
     (λ c κs. search rules)
     (λ c. search rules)
