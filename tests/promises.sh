@@ -1,16 +1,15 @@
 #!/usr/bin/env bash
-# docs/PROMISES.md is held to the repository: it names every public function and no other, as a call or as a building block; it names every wrong answer under
-# the functions that its first line has and no other, two or more of each, and in its map every file is there and has the names that the map gives beside it.
-# The crate `promises` ties the same functions, each to its own contract, and promises each tie once, under the function's name.
+# docs/PROMISES.md is held to the repository: it names every public function and no other, as a call or as a building block; it names every must-fail edit under
+# the functions that the edit's first line has and no other, two or more of each, and in its map every file is there and has the names that the map gives beside
+# it. The crate `promises` ties the same functions, each to its own contract, and promises each tie once, under the function's name; what else it states is on the
+# contract of its function `hold`. What C links, `exports_c`, has the functions of `exports` once more, under their names, with their parameters, replies and
+# clauses: no more and no fewer.
 set -u
 cd "$(dirname "${BASH_SOURCE[0]}")/.." || exit 1
 python3 - <<'PYTHON'
 import pathlib
 import re
 import sys
-
-sys.path.insert(0, 'tests/rounds')
-import wrong as wrong_answers
 
 text = pathlib.Path('docs/PROMISES.md').read_text()
 promised, _, rules = text.partition('# The map')
@@ -37,65 +36,68 @@ def public(crate):
                 yield f'{prefix}::{owner}{found.group(1)}'
 
 
+def contracts(crate):
+    """The public functions of a crate, each with its file, parameters, reply and clauses, in one line."""
+    root = pathlib.Path('crates', crate, 'src/lib.rt')
+    for path in [root] + [root.with_name(f'{m}.rt') for m in re.findall(r'^pub mod (\w+);', root.read_text(), re.M)]:
+        for found in re.finditer(r'^pub (?:extern "C" )?fn (\w+)(.*?)^\{$', path.read_text(), re.M | re.S):
+            yield f'{path.stem}::{found.group(1)}', ' '.join(found.group(2).split())
+
+
+# an edit: the functions that it is of, or the crate of laws, and what it claims, in its first line; and what it changes, in those below
+FIRST = re.compile(r'# (\w[\w:]*(?:, \w[\w:]*)*): (\S.*)')
+
+
+def edit_of(path):
+    """The functions of which an edit is."""
+    lines = path.read_text().splitlines()
+    if not (first := FIRST.fullmatch(lines[0]) if lines else None):
+        wrong.append(f'{path}: its first line is not "# crate::function: what it claims"')
+        return set()
+    wrong.extend(f'{path}: what does this line say? {line}' for line in lines[1:] if line and not re.match(r'(?:file|old|new|# apart):', line))
+    return set(first.group(1).split(', '))
+
+
 # an item goes on in the lines below it that are indented
 items = re.findall(r'^(?:\*\*|- ).*(?:\n  .*)*', text, re.M)
-functions = {f for crate in pathlib.Path('crates').iterdir() for f in public(crate.name)}
-# what reads or writes a descriptor or a file has no equation
-descriptors = {'program_reading::take', 'program_files::file', 'program_files::hear', 'program_output::complain'}
+functions = {f for crate in pathlib.Path('crates').iterdir() if crate.name != 'exports_c' for f in public(crate.name)}
+# each function that C links is one of `exports`, and says the same
+for_c, rust = dict(contracts('exports_c')), dict(contracts('exports'))
+compare('call for C', set(rust), set(for_c))
+wrong.extend(f'exports_c {x} says other than that of exports' for x in sorted(set(rust) & set(for_c)) if rust[x] != for_c[x])
+wrong.extend(f'{crate} has {len(read)} contracts that are read' for crate, read in (('exports', rust), ('exports_c', for_c)) if len(read) != len(set(public(crate))))
+# what reads or writes a descriptor or a file, or takes the program's arguments, has no equation
+descriptors = {'program_reading::take', 'program_files::arguments', 'program_files::file', 'program_files::hear', 'program_output::complain'}
 descriptors |= {f'program_output::Out::{name}' for name in ('flush', 'text', 'number', 'refused')}
+# and what has no answer at all, but states the theorems
+descriptors |= {'promises::hold'}
 wrong.extend(f'function {x} is an exception and not there' for x in sorted(descriptors - functions))
 kinds = {name: kind for name, kind in re.findall(r'^\*\*`([\w:]+)`\*\*, (call|block):', promised, re.M)}
 compare('function', functions - descriptors, set(kinds))
 
 # a tie: the function, its name in the family, its kind, and the description, which must cite the function's own signature and claims
 TIE = r'^-- `([\w:]+)`.*\n(?:--.*\n)*abbrev pub (\w+) : (Call|Function)\n((?:.+\n)+)'
-# The checker makes no claims of the two calls that are lent structs. Their families' own files read them off the contract's clauses, by these lines, in which
-# the function's own contract must stand, with each of its clauses by name.
-BY_HAND = ('chunk_register::list', 'tally_counts::add')
-READ = (
-    '  requires w = OWN.clauses (w .𝓤) (w .H) (w .𝓖 .A) (w .𝓜 .mem) (w .𝓡 .run) κs a .requires tt\n',
-    '  abbrev required : Read (In OWN.signature κs a) no-know requires\n',
-    '    ensures w = OWN.clauses (w .𝓤) (w .H) (w .𝓖 .A) (w .𝓜 .mem) (w .𝓡 .run) κs a .ensures tt x e\n',
-    '    abbrev ensured : Read (In OWN.signature κs a) no-know ensures\n',
-    'abbrev pub Asked : Asks OWN.ended\nAsked κs a = AllOf (required κs a .owes)\n',
-    'abbrev pub Post : Ensures OWN.ended\nPost κs a x e = AllOf (ensured κs a x e .owes)\n',
-)
-
-
-def clauses(function):
-    """The clauses of a function in the root of its crate, each as the checker calls it: ensures-reply. One without a name is `ensures-`."""
-    crate, name = function.split('::')
-    text = pathlib.Path('crates', crate, 'src/lib.rt').read_text()
-    contract = re.search(rf'^pub fn {name}\(.*?^{{$', text, re.M | re.S).group(0)
-    return [f'{kind}-{clause}' for kind, clause in re.findall(r'^    (requires|ensures) (\w*) ?{', contract, re.M)]
-
-
-def read_by_hand(function, own, text):
-    """What is wrong where a family's file reads a function's claims off its clauses."""
-    lines = [line.replace('OWN', own) for line in READ]
-    wrong.extend(f'{function} is not read by: {" ".join(line.split())}' for line in lines if text.count(line) != 1)
-    there, cited = clauses(function), re.findall(r'([\w.]+)\.((?:requires|ensures)-[\w-]*)', text)
-    wrong.extend(f'{function} has a clause without a name' for clause in there if clause.endswith('-'))
-    if cited != [(own, clause) for clause in there]:
-        wrong.append(f'{function} has the clauses {", ".join(there)} and is read off {", ".join(".".join(clause) for clause in cited)}')
-
-
 demand = pathlib.Path('crates/promises/specs/Demand1.antt').read_text()
 families = dict(re.findall(r'^use .*\.calls\.(\w+) as (\w+)$', demand, re.M))
 ties, described = {}, {}
 for path in sorted(pathlib.Path('crates/promises/specs/calls').glob('*.antt')):
-    contracts = dict(re.findall(r'^use Rattle·(\w+)\.proofs as (\w+)$', path.read_text(), re.M))
+    # what stands for the contract and the claims of a function, by the name that the file gives it
+    modules = {}
+    for crate, under, name in re.findall(r'^use Rattle\.(\w+)\.specs\.contracts\.([\w.]+) as (\w+)$', path.read_text(), re.M):
+        modules.setdefault(name, []).append(('contract', crate, under))
+    for crate, under, name in re.findall(r'^use Rattle\.(\w+)\.proofs\.([\w.]+)\.Reads as (\w+)$', path.read_text(), re.M):
+        modules.setdefault(name, []).append(('claims', crate, under))
+    wrong.extend(f'{path} has {name} more than once' for name, of in modules.items() if len(of) != 1)
     for function, name, kind, description in re.findall(TIE, path.read_text(), re.M):
         ties[function] = 'call' if kind == 'Call' else 'block'
         described[f'{families.get(path.stem)}.{name}'] = function
         crate, *rest = function.split('::')
-        own = '.'.join([contracts.get(crate, '?'), *rest])
-        claims = ['Asked', 'Post'] if function in BY_HAND else [f'{own}.Reads.Asked', f'{own}.Reads.Post']
-        cited = re.findall(r'[\w.]+\.(?:ended|Reads\.\w+)|(?<![\w.])(?:Asked|Post)\b', description)
-        if cited != [f'{own}.ended', *claims]:
-            wrong.append(f'{function} is tied to {", ".join(cited)}')
-        if function in BY_HAND:
-            read_by_hand(function, own, path.read_text())
+        own = [(what, crate, '.'.join(rest)) for what in ('contract', 'claims')]
+        cited = re.findall(r'(?<![\w.])([\w.]*?)\.?\b(ended|Asked|Post)\b', description)
+        if [word for _, word in cited] != ['ended', 'Asked', 'Post'] or [modules.get(by) for by, _ in cited] != [[own[0]], [own[1]], [own[1]]]:
+            wrong.append(f'{function} is tied to {", ".join(f"{by}.{word} of {modules.get(by)}" for by, word in cited)}')
+    # and nothing else in the file gives another meaning to these names
+    wrong.extend(f'{path} makes its own {name}' for name in re.findall(r'^ *(?:abbrev )?(?:pub )?(\w+) :', path.read_text(), re.M) if name in modules)
 compare('tie of', functions - descriptors, set(ties))
 wrong.extend(f'{name} is tied as a {ties[name]} and named as a {kinds[name]}' for name in sorted(set(ties) & set(kinds)) if ties[name] != kinds[name])
 
@@ -105,11 +107,19 @@ compare('promise of', set(described), set(promises))
 wrong.extend(f'{tie} is promised more than once' for tie in sorted(set(promises)) if promises.count(tie) > 1)
 for field, tie in fields:
     name = described.get(tie, '').split('::')[-1]
-    if name.replace('_', '') not in field.lower():
+    if name not in field:
         wrong.append(f'{described[tie]} is promised as {field}')
 
-# under which functions a wrong answer stands, by its own first line and here
-edits = {path.parts[-3] + '/' + path.stem: set(wrong_answers.read(path).of) for path in pathlib.Path('crates').glob('*/wrong/*.edit')}
+# each statement is on the contract of `hold`, but for the first demand: no contract can name what it is said of, so it is held to have its proof
+home = pathlib.Path('crates/promises')
+held = re.search(r'^pub fn hold\(\)\n(.*?)^\{', (home / 'src/lib.rt').read_text(), re.M | re.S).group(1)
+compare('statement', {path.stem for path in (home / 'specs').glob('*.antt')} - {'Lib', 'Ties', 'calls', 'Demand1'}, set(re.findall(r'^    ensures \w+ \{ (\w+) \}$', held, re.M)))
+for proved, line in (('Lib', 'pub mod Demand1'), ('Demand1', 'pub demand-1 : Demand1'), ('Demand1', 'use Rattle.promises.specs.Demand1.{Calls, Total, Demand1}')):
+    if line not in (home / f'proofs/{proved}.antt').read_text().splitlines():
+        wrong.append(f'the first demand has no proof: proofs/{proved}.antt has no line "{line}"')
+
+# under which functions an edit stands, by its own first line and here
+edits = {path.parts[-3] + '/' + path.stem: edit_of(path) for path in sorted(pathlib.Path('crates').glob('*/must-fail/*.edit'))}
 named, owner = {}, ''
 for item in items:
     if item.startswith('**'):
@@ -117,11 +127,11 @@ for item in items:
     elif item.startswith('- edits:'):
         for edit in re.findall(r'`(\w+)`', item):
             named.setdefault(owner.split('::')[0] + '/' + edit, set()).add(owner)
-compare('wrong answer', set(edits), set(named))
+compare('edit', set(edits), set(named))
 for edit in sorted(edits.keys() & named.keys()):
     if edits[edit] != named[edit]:
         wrong.append(f'{edit} says that it is of {", ".join(sorted(edits[edit]))}, and is named under {", ".join(sorted(named[edit]))}')
-wrong.extend(f'{x} has fewer than two wrong answers' for x in sorted(functions - descriptors) if sum(x in of for of in edits.values()) < 2)
+wrong.extend(f'{x} has fewer than two edits' for x in sorted(functions - descriptors) if sum(x in of for of in edits.values()) < 2)
 
 for item in re.findall(r'^- .*(?:\n  .*)*', rules, re.M):
     words = re.findall(r'`([^`\s]+)`', item)
@@ -135,6 +145,6 @@ for item in re.findall(r'^- .*(?:\n  .*)*', rules, re.M):
 
 for line in wrong:
     print('promises:', line)
-print(f'promises: {len(functions)} public functions, {len(edits)} wrong answers, {len(wrong)} wrong')
+print(f'promises: {len(functions)} public functions, {len(edits)} edits, {len(wrong)} wrong')
 sys.exit(bool(wrong))
 PYTHON

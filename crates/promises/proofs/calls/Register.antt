@@ -1,4 +1,4 @@
--- The clauses, read as facts, are the tie itself; the refusal is the first arm of `answer`, and the number stands in both arms.
+-- The contract is the tie itself; the refusal is the first arm of `answer`, and the number stands in both arms.
 use mathlib.Core.Path.{refl}
 use Rattle.base.proofs.Refused.{answer-no, answer-number}
 use Rattle.chunk_reading.specs.declared.Survey.{Survey}

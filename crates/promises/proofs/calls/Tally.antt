@@ -1,5 +1,4 @@
--- Each contract is the tie itself, that of `add` by its clauses, read as facts; a refusal is the first arm of `answer`, in the reply and in the caller's
--- tally, and the number stands in both arms.
+-- Each contract is the tie itself; a refusal is the first arm of `answer`, in the reply and in the caller's tally, and the number stands in both arms.
 use mathlib.Core.Path.{refl}
 use Rattle.base.proofs.Refused.{answer-no, answer-number}
 use Rattle.tally_recording.specs.declared.Counted.{Counted}

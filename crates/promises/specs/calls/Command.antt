@@ -9,42 +9,52 @@ use Rattle.command.specs.Layout as layout
 use Rattle.command.specs.Asking.{first_causes}
 use Rattle.command_reading.specs.Reading.{read_causes, read_reply, further_reply, refused as read_refused}
 use Rattle.command_writing.specs.Writing.{write_causes, write_reply, write_room}
-use Rattle.command_catalogue.proofs as command_catalogue
-use Rattle.command.proofs as command
-use Rattle.command_reading.proofs as command_reading
-use Rattle.command_writing.proofs as command_writing
+use Rattle.command_catalogue.specs.contracts.asked_wrong as asked_wrong_contract
+use Rattle.command_catalogue.proofs.asked_wrong.Reads as asked_wrong_reads
+use Rattle.command_catalogue.specs.contracts.judge as judge_contract
+use Rattle.command_catalogue.proofs.judge.Reads as judge_reads
+use Rattle.command.specs.contracts.fields_in as fields_in_contract
+use Rattle.command.proofs.fields_in.Reads as fields_in_reads
+use Rattle.command.specs.contracts.first as first_contract
+use Rattle.command.proofs.first.Reads as first_reads
+use Rattle.command_reading.specs.contracts.read as read_contract
+use Rattle.command_reading.proofs.read.Reads as read_reads
+use Rattle.command_reading.specs.contracts.further as further_contract
+use Rattle.command_reading.proofs.further.Reads as further_reads
+use Rattle.command_writing.specs.contracts.write as write_contract
+use Rattle.command_writing.proofs.write.Reads as write_reads
 use Rattle.promises.specs.Ties.{Function, replies, Call, number_alone, replies_or_refuses, shows_or_refuses}
 
 -- `command_catalogue::asked_wrong`
 abbrev pub asked_wrong : Function
 asked_wrong =
-    replies command_catalogue.asked_wrong.ended command_catalogue.asked_wrong.Reads.Asked command_catalogue.asked_wrong.Reads.Post
+    replies asked_wrong_contract.ended asked_wrong_reads.Asked asked_wrong_reads.Post
     λ κs (catalogue, (mode, _)). rules.asked_wrong catalogue mode
 
 -- `command_catalogue::judge`
 abbrev pub judge : Call
 judge =
-    replies_or_refuses command_catalogue.judge.ended command_catalogue.judge.Reads.Asked command_catalogue.judge.Reads.Post
+    replies_or_refuses judge_contract.ended judge_reads.Asked judge_reads.Post
     λ κs (catalogue, (mode, (type, (qualifier, (address, (word, (bytes, _))))))).
     number_alone (rules.judge_causes catalogue mode type qualifier address word bytes.now)
 
 -- `command::fields_in`
 abbrev pub fields_in : Function
 fields_in =
-    replies command.fields_in.ended command.fields_in.Reads.Asked command.fields_in.Reads.Post
+    replies fields_in_contract.ended fields_in_reads.Asked fields_in_reads.Post
     λ κs (bytes, _). layout.fields_in bytes.now
 
 -- `command::first`
 abbrev pub first : Call
 first =
-    replies_or_refuses command.first.ended command.first.Reads.Asked command.first.Reads.Post
+    replies_or_refuses first_contract.ended first_reads.Asked first_reads.Post
     λ κs (argument, (catalogue, (total, _))).
     number_alone (first_causes argument catalogue total.0)
 
 -- `command_reading::read`
 abbrev pub read : Call
 read =
-    replies_or_refuses command_reading.read.ended command_reading.read.Reads.Asked command_reading.read.Reads.Post
+    replies_or_refuses read_contract.ended read_reads.Asked read_reads.Post
     λ κs (catalogue, (mode, (bytes, _))).
     record {
       defined = read_reply catalogue mode bytes.now;
@@ -56,7 +66,7 @@ read =
 -- `command_reading::further`
 abbrev pub further : Call
 further =
-    shows_or_refuses command_reading.further.ended command_reading.further.Reads.Asked command_reading.further.Reads.Post
+    shows_or_refuses further_contract.ended further_reads.Asked further_reads.Post
     (List ℕ) (λ κs x e. x.now)
     λ κs (catalogue, (mode, (bytes, _))).
     record {
@@ -69,7 +79,7 @@ further =
 -- `command_writing::write`
 abbrev pub write : Call
 write =
-    shows_or_refuses command_writing.write.ended command_writing.write.Reads.Asked command_writing.write.Reads.Post
+    shows_or_refuses write_contract.ended write_reads.Asked write_reads.Post
     (Sent × List ℕ) (λ κs x (_, (_, (_, (_, (room, _))))). (x, room.now))
     λ κs (catalogue, (mode, (fields, (bytes, (room, _))))).
     record {

@@ -5,26 +5,34 @@ use Rattle.frame_reading.specs.declared.Frame.{Frame}
 use Rattle.frame.specs.Shape as shape
 use Rattle.frame.specs.Pieces.{next_piece}
 use Rattle.frame_reading.specs.Replies.{refused, at_causes, at_reply, judge_causes, judge_reply, read_causes, read_reply, read_room}
-use Rattle.frame.proofs as frame
-use Rattle.frame_reading.proofs as frame_reading
+use Rattle.frame.specs.contracts.starts as starts_contract
+use Rattle.frame.proofs.starts.Reads as starts_reads
+use Rattle.frame.specs.contracts.pieces.next as next_contract
+use Rattle.frame.proofs.pieces.next.Reads as next_reads
+use Rattle.frame_reading.specs.contracts.at as at_contract
+use Rattle.frame_reading.proofs.at.Reads as at_reads
+use Rattle.frame_reading.specs.contracts.judge as judge_contract
+use Rattle.frame_reading.proofs.judge.Reads as judge_reads
+use Rattle.frame_reading.specs.contracts.read as read_contract
+use Rattle.frame_reading.proofs.read.Reads as read_reads
 use Rattle.promises.specs.Ties.{Function, replies, Call, replies_or_refuses, shows_or_refuses}
 
 -- `frame::starts`
 abbrev pub starts : Function
 starts =
-    replies frame.starts.ended frame.starts.Reads.Asked frame.starts.Reads.Post
+    replies starts_contract.ended starts_reads.Asked starts_reads.Post
     λ κs (header, _). shape.starts header
 
 -- `frame::pieces::next`
 abbrev pub next : Function
 next =
-    replies frame.pieces.next.ended frame.pieces.next.Reads.Asked frame.pieces.next.Reads.Post
+    replies next_contract.ended next_reads.Asked next_reads.Post
     λ κs (words, (sync, (from, _))). next_piece sync words.now from.0
 
 -- `frame_reading::at`
 abbrev pub at : Call
 at =
-    replies_or_refuses frame_reading.at.ended frame_reading.at.Reads.Asked frame_reading.at.Reads.Post
+    replies_or_refuses at_contract.ended at_reads.Asked at_reads.Post
     λ κs (recording, (sync, (place, _))).
     record {
       defined = at_reply sync recording.now place.0;
@@ -36,7 +44,7 @@ at =
 -- `frame_reading::judge`
 abbrev pub judge : Call
 judge =
-    replies_or_refuses frame_reading.judge.ended frame_reading.judge.Reads.Asked frame_reading.judge.Reads.Post
+    replies_or_refuses judge_contract.ended judge_reads.Asked judge_reads.Post
     λ κs (recording, (sync, (place, _))).
     record {
       defined = judge_reply sync recording.now place.0;
@@ -48,7 +56,7 @@ judge =
 -- `frame_reading::read`
 abbrev pub read : Call
 read =
-    shows_or_refuses frame_reading.read.ended frame_reading.read.Reads.Asked frame_reading.read.Reads.Post
+    shows_or_refuses read_contract.ended read_reads.Asked read_reads.Post
     (Frame × List ℕ) (λ κs x (_, (_, (_, (room, _)))). (x, room.now))
     λ κs (recording, (sync, (place, (room, _)))).
     record {

@@ -11,30 +11,45 @@ use Rattle.health_observation.specs.Observation.{observation_causes, observation
 use Rattle.health_checksums.specs.Checksums.{checksums_causes, checksums_reply, refused as checksums_refused}
 use Rattle.health_upsets.specs.Upsets.{upsets_causes, upsets_reply, refused as upsets_refused}
 use Rattle.health_last.specs.Last.{place, last_causes, last_place_reply, last_packet_reply}
-use Rattle.health.proofs as health
-use Rattle.health_observation.proofs as health_observation
-use Rattle.health_checksums.proofs as health_checksums
-use Rattle.health_upsets.proofs as health_upsets
-use Rattle.health_last.proofs as health_last
+use Rattle.health.specs.contracts.packet.judge as judge_contract
+use Rattle.health.proofs.packet.judge.Reads as judge_reads
+use Rattle.health.specs.contracts.packet.sound_at as sound_at_contract
+use Rattle.health.proofs.packet.sound_at.Reads as sound_at_reads
+use Rattle.health.specs.contracts.packet.read_packet as read_packet_contract
+use Rattle.health.proofs.packet.read_packet.Reads as read_packet_reads
+use Rattle.health.specs.contracts.packet.write_packet as write_packet_contract
+use Rattle.health.proofs.packet.write_packet.Reads as write_packet_reads
+use Rattle.health_observation.specs.contracts.observation as observation_contract
+use Rattle.health_observation.proofs.observation.Reads as observation_reads
+use Rattle.health_checksums.specs.contracts.checksums_refusal as checksums_refusal_contract
+use Rattle.health_checksums.proofs.checksums_refusal.Reads as checksums_refusal_reads
+use Rattle.health_checksums.specs.contracts.checksums as checksums_contract
+use Rattle.health_checksums.proofs.checksums.Reads as checksums_reads
+use Rattle.health_upsets.specs.contracts.upsets as upsets_contract
+use Rattle.health_upsets.proofs.upsets.Reads as upsets_reads
+use Rattle.health_last.specs.contracts.last_place as last_place_contract
+use Rattle.health_last.proofs.last_place.Reads as last_place_reads
+use Rattle.health_last.specs.contracts.last_packet as last_packet_contract
+use Rattle.health_last.proofs.last_packet.Reads as last_packet_reads
 use Rattle.promises.specs.Ties.{Function, replies, Call, number_alone, replies_or_refuses, shows_or_refuses}
 
 -- `health::packet::judge`
 abbrev pub judge : Call
 judge =
-    replies_or_refuses health.packet.judge.ended health.packet.judge.Reads.Asked health.packet.judge.Reads.Post
+    replies_or_refuses judge_contract.ended judge_reads.Asked judge_reads.Post
     λ κs (packet, (odd, _)).
     number_alone (judge_causes packet.now odd)
 
 -- `health::packet::sound_at`
 abbrev pub sound_at : Function
 sound_at =
-    replies health.packet.sound_at.ended health.packet.sound_at.Reads.Asked health.packet.sound_at.Reads.Post
+    replies sound_at_contract.ended sound_at_reads.Asked sound_at_reads.Post
     λ κs (words, (at, _)). sound_packet (packet_at words.now at.0)
 
 -- `health::packet::read_packet`
 abbrev pub read_packet : Call
 read_packet =
-    replies_or_refuses health.packet.read_packet.ended health.packet.read_packet.Reads.Asked health.packet.read_packet.Reads.Post
+    replies_or_refuses read_packet_contract.ended read_packet_reads.Asked read_packet_reads.Post
     λ κs (packet, _).
     record {
       defined = read_reply packet.now;
@@ -46,7 +61,7 @@ read_packet =
 -- `health::packet::write_packet`
 abbrev pub write_packet : Call
 write_packet =
-    shows_or_refuses health.packet.write_packet.ended health.packet.write_packet.Reads.Asked health.packet.write_packet.Reads.Post
+    shows_or_refuses write_packet_contract.ended write_packet_reads.Asked write_packet_reads.Post
     (Written × List ℕ) (λ κs x (_, (_, (_, (room, _)))). (x, room.now))
     λ κs (type, (time, (words, (room, _)))).
     record {
@@ -59,7 +74,7 @@ write_packet =
 -- `health_observation::observation`
 abbrev pub observation : Call
 observation =
-    replies_or_refuses health_observation.observation.ended health_observation.observation.Reads.Asked health_observation.observation.Reads.Post
+    replies_or_refuses observation_contract.ended observation_reads.Asked observation_reads.Post
     λ κs (packet, _).
     record {
       defined = observation_reply packet.now;
@@ -71,14 +86,14 @@ observation =
 -- `health_checksums::checksums_refusal`
 abbrev pub checksums_refusal : Call
 checksums_refusal =
-    replies_or_refuses health_checksums.checksums_refusal.ended health_checksums.checksums_refusal.Reads.Asked health_checksums.checksums_refusal.Reads.Post
+    replies_or_refuses checksums_refusal_contract.ended checksums_refusal_reads.Asked checksums_refusal_reads.Post
     λ κs (packet, _).
     number_alone (checksums_causes packet.now)
 
 -- `health_checksums::checksums`
 abbrev pub checksums : Call
 checksums =
-    replies_or_refuses health_checksums.checksums.ended health_checksums.checksums.Reads.Asked health_checksums.checksums.Reads.Post
+    replies_or_refuses checksums_contract.ended checksums_reads.Asked checksums_reads.Post
     λ κs (packet, _).
     record {
       defined = checksums_reply packet.now;
@@ -90,7 +105,7 @@ checksums =
 -- `health_upsets::upsets`
 abbrev pub upsets : Call
 upsets =
-    replies_or_refuses health_upsets.upsets.ended health_upsets.upsets.Reads.Asked health_upsets.upsets.Reads.Post
+    replies_or_refuses upsets_contract.ended upsets_reads.Asked upsets_reads.Post
     λ κs (packet, _).
     record {
       defined = upsets_reply packet.now;
@@ -102,11 +117,11 @@ upsets =
 -- `health_last::last_place`
 abbrev pub last_place : Call
 last_place =
-    replies_or_refuses health_last.last_place.ended health_last.last_place.Reads.Asked health_last.last_place.Reads.Post
+    replies_or_refuses last_place_contract.ended last_place_reads.Asked last_place_reads.Post
     λ κs (science, (sync, (health, (type, _)))).
     record {
-      defined = last_place_reply sync science.now (health .now) type;
-      causes = last_causes sync science.now (health .now) type;
+      defined = last_place_reply sync science.now health.now type;
+      causes = last_causes sync science.now health.now type;
       refused = λ v. place v 0 0 false;
       number = some λ x. x.refusal;
     }
@@ -114,12 +129,12 @@ last_place =
 -- `health_last::last_packet`
 abbrev pub last_packet : Call
 last_packet =
-    shows_or_refuses health_last.last_packet.ended health_last.last_packet.Reads.Asked health_last.last_packet.Reads.Post
+    shows_or_refuses last_packet_contract.ended last_packet_reads.Asked last_packet_reads.Post
     (List ℕ) (λ κs x e. x.now)
     λ κs (science, (sync, (health, (type, _)))).
     record {
-      defined = last_packet_reply sync science.now (health .now) type;
-      causes = last_causes sync science.now (health .now) type;
+      defined = last_packet_reply sync science.now health.now type;
+      causes = last_causes sync science.now health.now type;
       refused = λ v. [];
       number = none;
     }

@@ -8,33 +8,54 @@ use Rattle.parity_rows.specs.Parity.{parities, stated_parity, parity_words as wo
 use Rattle.parity.specs.Unit.{refused, judge_causes, judge_reply, check_causes, check_reply, check_room, write_causes, write_reply, write_room}
 use Rattle.parity_units.specs.Split.{units_in, data_words_in, any_damaged}
 use Rattle.parity_units.specs.Replies.{join_reply, join_room, copy_reply, copy_room, outcomes, harm_to}
-use Rattle.parity_rows.proofs as parity_rows
-use Rattle.parity.proofs as parity
-use Rattle.parity_units.proofs as parity_units
+use Rattle.parity_rows.specs.contracts.parity as rows_parity_contract
+use Rattle.parity_rows.proofs.parity.Reads as rows_parity_reads
+use Rattle.parity_rows.specs.contracts.stated as stated_contract
+use Rattle.parity_rows.proofs.stated.Reads as stated_reads
+use Rattle.parity_rows.specs.contracts.parity_words as parity_words_contract
+use Rattle.parity_rows.proofs.parity_words.Reads as parity_words_reads
+use Rattle.parity.specs.contracts.write_unit as write_unit_contract
+use Rattle.parity.proofs.write_unit.Reads as write_unit_reads
+use Rattle.parity.specs.contracts.judge_unit as judge_unit_contract
+use Rattle.parity.proofs.judge_unit.Reads as judge_unit_reads
+use Rattle.parity.specs.contracts.check_unit as check_unit_contract
+use Rattle.parity.proofs.check_unit.Reads as check_unit_reads
+use Rattle.parity_units.specs.contracts.data_words as data_words_contract
+use Rattle.parity_units.proofs.data_words.Reads as data_words_reads
+use Rattle.parity_units.specs.contracts.damaged as damaged_contract
+use Rattle.parity_units.proofs.damaged.Reads as damaged_reads
+use Rattle.parity_units.specs.contracts.inspect as inspect_contract
+use Rattle.parity_units.proofs.inspect.Reads as inspect_reads
+use Rattle.parity_units.specs.contracts.join as join_contract
+use Rattle.parity_units.proofs.join.Reads as join_reads
+use Rattle.parity_units.specs.contracts.copy as copy_contract
+use Rattle.parity_units.proofs.copy.Reads as copy_reads
+use Rattle.parity_units.specs.contracts.count as count_contract
+use Rattle.parity_units.proofs.count.Reads as count_reads
 use Rattle.promises.specs.Ties.{Function, replies, shows, Call, replies_or_refuses, shows_or_refuses}
 
 -- `parity_rows::parity`
 abbrev pub rows_parity : Function
 rows_parity =
-    replies parity_rows.parity.ended parity_rows.parity.Reads.Asked parity_rows.parity.Reads.Post
+    replies rows_parity_contract.ended rows_parity_reads.Asked rows_parity_reads.Post
     λ κs (words, _). parities words.now
 
 -- `parity_rows::stated`
 abbrev pub stated : Function
 stated =
-    replies parity_rows.stated.ended parity_rows.stated.Reads.Asked parity_rows.stated.Reads.Post
+    replies stated_contract.ended stated_reads.Asked stated_reads.Post
     λ κs (unit, _). stated_parity unit.now
 
 -- `parity_rows::parity_words`
 abbrev pub parity_words : Function
 parity_words =
-    replies parity_rows.parity_words.ended parity_rows.parity_words.Reads.Asked parity_rows.parity_words.Reads.Post
+    replies parity_words_contract.ended parity_words_reads.Asked parity_words_reads.Post
     λ κs (words, _). words_of words.now
 
 -- `parity::write_unit`
 abbrev pub write_unit : Call
 write_unit =
-    shows_or_refuses parity.write_unit.ended parity.write_unit.Reads.Asked parity.write_unit.Reads.Post
+    shows_or_refuses write_unit_contract.ended write_unit_reads.Asked write_unit_reads.Post
     (Written × List ℕ) (λ κs x (_, (room, _)). (x, room.now))
     λ κs (words, (room, _)).
     record {
@@ -47,7 +68,7 @@ write_unit =
 -- `parity::judge_unit`
 abbrev pub judge_unit : Call
 judge_unit =
-    replies_or_refuses parity.judge_unit.ended parity.judge_unit.Reads.Asked parity.judge_unit.Reads.Post
+    replies_or_refuses judge_unit_contract.ended judge_unit_reads.Asked judge_unit_reads.Post
     λ κs (unit, _).
     record {
       defined = judge_reply unit.now;
@@ -59,7 +80,7 @@ judge_unit =
 -- `parity::check_unit`
 abbrev pub check_unit : Call
 check_unit =
-    shows_or_refuses parity.check_unit.ended parity.check_unit.Reads.Asked parity.check_unit.Reads.Post
+    shows_or_refuses check_unit_contract.ended check_unit_reads.Asked check_unit_reads.Post
     (Judged × List ℕ) (λ κs x (_, (room, _)). (x, room.now))
     λ κs (unit, (room, _)).
     record {
@@ -72,37 +93,37 @@ check_unit =
 -- `parity_units::data_words`
 abbrev pub data_words : Function
 data_words =
-    shows parity_units.data_words.ended parity_units.data_words.Reads.Asked parity_units.data_words.Reads.Post
+    shows data_words_contract.ended data_words_reads.Asked data_words_reads.Post
     ℕ (λ κs x e. x.0) λ κs (n, _). data_words_in n.0
 
 -- `parity_units::damaged`
 abbrev pub damaged : Function
 damaged =
-    replies parity_units.damaged.ended parity_units.damaged.Reads.Asked parity_units.damaged.Reads.Post
+    replies damaged_contract.ended damaged_reads.Asked damaged_reads.Post
     λ κs (payload, _). any_damaged (units_in payload.now)
 
 -- `parity_units::inspect`
 abbrev pub inspect : Function
 inspect =
-    replies parity_units.inspect.ended parity_units.inspect.Reads.Asked parity_units.inspect.Reads.Post
+    replies inspect_contract.ended inspect_reads.Asked inspect_reads.Post
     λ κs (payload, _). harm_to (units_in payload.now)
 
 -- `parity_units::join`
 abbrev pub join : Function
 join =
-    shows parity_units.join.ended parity_units.join.Reads.Asked parity_units.join.Reads.Post
+    shows join_contract.ended join_reads.Asked join_reads.Post
     (ℕ × List ℕ) (λ κs x (_, (room, _)). (x.0, room.now))
     λ κs (payload, (room, (place, _))). (join_reply payload.now place.0 (length room.now), join_room payload.now place.0 room.now)
 
 -- `parity_units::copy`
 abbrev pub copy : Function
 copy =
-    shows parity_units.copy.ended parity_units.copy.Reads.Asked parity_units.copy.Reads.Post
+    shows copy_contract.ended copy_reads.Asked copy_reads.Post
     (ℕ × List ℕ) (λ κs x (_, (room, _)). (x.0, room.now))
     λ κs (payload, (room, (place, _))). (copy_reply payload.now place.0 (length room.now), copy_room payload.now place.0 room.now)
 
 -- `parity_units::count`
 abbrev pub count : Function
 count =
-    replies parity_units.count.ended parity_units.count.Reads.Asked parity_units.count.Reads.Post
+    replies count_contract.ended count_reads.Asked count_reads.Post
     λ κs (payload, _). outcomes (units_in payload.now)

@@ -8,14 +8,20 @@ use Rattle.base_room.specs.Room.{put}
 use Rattle.program_input.specs.Input.{words_causes, words_reply, words_room}
 use Rattle.program_output.specs.declared.Out.{Out}
 use Rattle.program_output.specs.Output.{to_reply, append_reply, decimal}
-use Rattle.program_input.proofs as program_input
-use Rattle.program_output.proofs as program_output
+use Rattle.program_input.specs.contracts.words as words_contract
+use Rattle.program_input.proofs.words.Reads as words_reads
+use Rattle.program_output.specs.contracts.Out.to as to_contract
+use Rattle.program_output.proofs.Out.to.Reads as to_reads
+use Rattle.program_output.specs.contracts.Out.append as append_contract
+use Rattle.program_output.proofs.Out.append.Reads as append_reads
+use Rattle.program_output.specs.contracts.Out.append_number as append_number_contract
+use Rattle.program_output.proofs.Out.append_number.Reads as append_number_reads
 use Rattle.promises.specs.Ties.{Function, replies, shows, Call, shows_or_refuses}
 
 -- `program_input::words`
 abbrev pub words : Call
 words =
-    shows_or_refuses program_input.words.ended program_input.words.Reads.Asked program_input.words.Reads.Post
+    shows_or_refuses words_contract.ended words_reads.Asked words_reads.Post
     (Written × List ℕ) (λ κs x (_, (_, (room, _))). (x, room.now))
     λ κs (bytes, (most, (room, _))).
     record {
@@ -28,19 +34,19 @@ words =
 -- `program_output::Out::to`
 abbrev pub to : Function
 to =
-    replies program_output.Out.to.ended program_output.Out.to.Reads.Asked program_output.Out.to.Reads.Post
+    replies to_contract.ended to_reads.Asked to_reads.Post
     λ κs (descriptor, _). to_reply descriptor
 
 -- `program_output::Out::append`
 abbrev pub append : Function
 append =
-    shows program_output.Out.append.ended program_output.Out.append.Reads.Asked program_output.Out.append.Reads.Post
+    shows append_contract.ended append_reads.Asked append_reads.Post
     (Out × List ℕ) (λ κs x (_, (page, _)). (x, page.now))
     λ κs (out, (page, (bytes, _))). (append_reply out (length bytes.now), put bytes.now out.used.0 page.now)
 
 -- `program_output::Out::append_number`
 abbrev pub append_number : Function
 append_number =
-    shows program_output.Out.append_number.ended program_output.Out.append_number.Reads.Asked program_output.Out.append_number.Reads.Post
+    shows append_number_contract.ended append_number_reads.Asked append_number_reads.Post
     (Out × List ℕ) (λ κs x (_, (page, _)). (x, page.now))
     λ κs (out, (page, (n, _))). (append_reply out (length (decimal n)), put (decimal n) out.used.0 page.now)

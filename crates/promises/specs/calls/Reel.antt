@@ -5,14 +5,16 @@ use Rattle.base.specs.declared.Written.{Written}
 use Rattle.base.specs.Refusal.{wrote}
 use Rattle.reel.specs.Reading.{read_causes, read_reply, told}
 use Rattle.reel_writing.specs.Writing.{write_causes, write_reply, write_room}
-use Rattle.reel.proofs as reel
-use Rattle.reel_writing.proofs as reel_writing
+use Rattle.reel.specs.contracts.read as read_contract
+use Rattle.reel.proofs.read.Reads as read_reads
+use Rattle.reel_writing.specs.contracts.write as write_contract
+use Rattle.reel_writing.proofs.write.Reads as write_reads
 use Rattle.promises.specs.Ties.{Call, replies_or_refuses, shows_or_refuses}
 
 -- `reel::read`
 abbrev pub read : Call
 read =
-    replies_or_refuses reel.read.ended reel.read.Reads.Asked reel.read.Reads.Post
+    replies_or_refuses read_contract.ended read_reads.Asked read_reads.Post
     λ κs (words, (sync, _)).
     record {
       defined = read_reply sync words.now;
@@ -24,7 +26,7 @@ read =
 -- `reel_writing::write`
 abbrev pub write : Call
 write =
-    shows_or_refuses reel_writing.write.ended reel_writing.write.Reads.Asked reel_writing.write.Reads.Post
+    shows_or_refuses write_contract.ended write_reads.Asked write_reads.Post
     (Written × List ℕ) (λ κs x (_, (_, (room, _))). (x, room.now))
     λ κs (recording, (sync, (room, _))).
     record {
