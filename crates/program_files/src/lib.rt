@@ -59,12 +59,7 @@ pub fn file(rt: HostRuntime, argument: usize, room: &mut [u8]) -> Taken
 }
 
 // The words of the file that an argument names: one that is not refused has a sync word. One that cannot be read gave no byte, and is refused too.
-pub fn hear(
-    rt: HostRuntime,
-    argument: usize,
-    bytes: &mut [u8],
-    words: &mut [u16; WORDS.0],
-) -> Heard
+pub fn hear(rt: HostRuntime, argument: usize, bytes: &mut [u8], words: &mut [u16; WORDS.0]) -> Heard
     ensures bound { 1 ≤ result.refusal + result.end.0 }
     ensures end_in_bounds { result.end.0 ≤ length words.new }
 {

@@ -5,18 +5,18 @@ use borrow.Author.Rules.{rules}
 use Rattle.crc_vectors.proofs.line_end.Statement.{statement}
 use Rattle.crc_vectors.proofs.line_end.Tie as tie
 
-abbrev invariant-loop : tie.invariant-loop
-invariant-loop text from i₀ i = (from ≤ i) × (i ≤ length text)
+abbrev invariant-loop-i : tie.invariant-loop-i
+invariant-loop-i text from i₀ i = (from ≤ i) × (i ≤ length text)
 
-abbrev decreases-loop : tie.decreases-loop
-decreases-loop text from i₀ i = length text - i
+abbrev decreases-loop-i : tie.decreases-loop-i
+decreases-loop-i text from i₀ i = length text - i
 
-pub line-end-spec : {M : Type 1} → statement M
-line-end-spec =
+pub line_end_spec : {M : Type 1} → statement M
+line_end_spec =
     tie.close
     (tie.spec
-    invariant-loop
-    decreases-loop
+    invariant-loop-i
+    decreases-loop-i
     (λ c. search rules)
     (λ c. search rules)
     (λ c. search rules)

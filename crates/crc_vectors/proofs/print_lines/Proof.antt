@@ -5,18 +5,18 @@ use borrow.Author.Rules.{rules}
 use Rattle.crc_vectors.proofs.print_lines.Statement.{statement}
 use Rattle.crc_vectors.proofs.print_lines.Tie as tie
 
-abbrev invariant-loop : tie.invariant-loop
-invariant-loop text at₀ at = at ≤ length text + 1
+abbrev invariant-loop-at : tie.invariant-loop-at
+invariant-loop-at rt text at₀ at = at ≤ length text + 1
 
-abbrev decreases-loop : tie.decreases-loop
-decreases-loop text at₀ at = length text - at
+abbrev decreases-loop-at : tie.decreases-loop-at
+decreases-loop-at rt text at₀ at = length text - at
 
-pub print-lines-spec : {M : Type 1} → statement M
-print-lines-spec =
+pub print_lines_spec : {M : Type 1} → statement M
+print_lines_spec =
     tie.close
     (tie.spec
-    invariant-loop
-    decreases-loop
+    invariant-loop-at
+    decreases-loop-at
     (λ c. search rules)
     (λ c κs. search rules)
     (λ c. search rules)

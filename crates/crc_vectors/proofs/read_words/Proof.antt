@@ -7,24 +7,24 @@ use borrow.Author.Rules.{rules}
 use Rattle.crc_vectors.proofs.read_words.Statement.{statement}
 use Rattle.crc_vectors.proofs.read_words.Tie as tie
 
-abbrev invariant-loop : tie.invariant-loop
-invariant-loop line room₀ n₀ at₀ room n at = (length room ≡ length room₀) × ((n ≤ length room₀) × (at ≤ 8 + length line))
+abbrev invariant-loop-n : tie.invariant-loop-n
+invariant-loop-n line room₀ n₀ at₀ room n at = (length room ≡ length room₀) × ((n ≤ length room₀) × (at ≤ 8 + length line))
 
-abbrev decreases-loop : tie.decreases-loop
-decreases-loop line room₀ n₀ at₀ room n at = length room₀ - n
+abbrev decreases-loop-n : tie.decreases-loop-n
+decreases-loop-n line room₀ n₀ at₀ room n at = length room₀ - n
 
-returns : tie.Need-returns invariant-loop decreases-loop
+returns : tie.Need-returns-then-line-at invariant-loop-n decreases-loop-n
 returns c = (search rules, simp length-take (omega arith))
 
-returns-2 : tie.Need-returns-2 invariant-loop decreases-loop
+returns-2 : tie.Need-returns invariant-loop-n decreases-loop-n
 returns-2 c = (search rules, simp length-take (omega arith))
 
-pub read-words-spec : {M : Type 1} → statement M
-read-words-spec =
+pub read_words_spec : {M : Type 1} → statement M
+read_words_spec =
     tie.close
     (tie.spec
-    invariant-loop
-    decreases-loop
+    invariant-loop-n
+    decreases-loop-n
     (λ c. search rules)
     (λ c. search rules)
     (λ c. search rules)
