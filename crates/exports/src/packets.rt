@@ -8,12 +8,7 @@ use base::{Words, refusal};
 use health::packet;
 
 // The newest packet of a type: its recording, its place there, and the mark of its chunk.
-pub fn hawserfen_last_place(
-    science: &[u16],
-    sync: u16,
-    health: &[u16],
-    packet_type: u16,
-) -> u64
+pub fn hawserfen_last_place(science: &[u16], sync: u16, health: &[u16], packet_type: u16) -> u64
     ensures { result ≡ placed (last_place_reply sync science.now health.now packet_type) }
 {
     let p = health_last::last_place(science, sync, health, packet_type);

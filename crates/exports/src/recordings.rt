@@ -27,12 +27,7 @@ pub fn hawserfen_outline(recording: &[u16], sync: u16) -> u64
 }
 
 // The frame at a place, its data to the room: chunks, data words, and the camera with the flags above it.
-pub fn hawserfen_read_frame(
-    recording: &[u16],
-    sync: u16,
-    place: usize,
-    room: &mut [u16],
-) -> u64
+pub fn hawserfen_read_frame(recording: &[u16], sync: u16, place: usize, room: &mut [u16]) -> u64
     ensures value { result ≡ framed (read_reply sync recording.now place (length room.old)) }
     ensures room_after { room.new ≡ read_room sync recording.now place room.old }
 {

@@ -68,7 +68,7 @@ check_unit_spec =
     (λ c κs. search rules)
     (λ c. search rules)
     (λ c. let e = c.look-r.ensures in
-        (e, data-as-they-stand _ _ _ e c.if-r-ne0.false _ c.put_words.ensures (λ z. omega (arith, z))))
+    (e, data-as-they-stand _ _ _ e c.if-r-ne0.false _ c.put_words.ensures (λ z. omega (arith, z))))
     mul-room
     slice-read-room
     (λ c. search rules)

@@ -23,8 +23,8 @@ parity_spec =
     (λ c κs. search rules)
     (λ c κs. search rules)
     (λ c. let d = c.args.«data».now in
-        let all : c.whole_in-whole.result ≡ 64 = omega arith in
-        c.whole_rows-s.ensures ∙ ap (sums_of d) all ∙ all-rows d)
+    let all : c.whole_in-whole.result ≡ 64 = omega arith in
+    c.whole_rows-s.ensures ∙ ap (sums_of d) all ∙ all-rows d)
     (λ c. search rules)
     (λ c κs. search rules)
     (λ c κs. search rules)

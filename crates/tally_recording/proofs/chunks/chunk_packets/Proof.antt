@@ -28,11 +28,10 @@ own c =
     ∙ sym (chunk-packets a.chunk (sym c.kind_of.ensures ∙ c.if-kind_of-ne1.false))
 
 row-packets-requires : tie.Need-row_packets-requires
-row-packets-requires c κs =
-    (
-      omega (arith, c.requires.0, c.size_of.ensures),
-      ap (λ (ps : List ℕ). any_past (sums c.args.packets (packet_numbers c.args.words.now ps))) (own c.before.before) ∙ c.requires.1,
-    )
+row-packets-requires c κs = (
+  omega (arith, c.requires.0, c.size_of.ensures),
+  ap (λ (ps : List ℕ). any_past (sums c.args.packets (packet_numbers c.args.words.now ps))) (own c.before.before) ∙ c.requires.1,
+)
 
 returns-2 : tie.Need-returns
 returns-2 c =
