@@ -41,7 +41,8 @@ def contracts(crate):
     root = pathlib.Path('crates', crate, 'src/lib.rt')
     for path in [root] + [root.with_name(f'{m}.rt') for m in re.findall(r'^pub mod (\w+);', root.read_text(), re.M)]:
         for found in re.finditer(r'^pub (?:extern "C" )?fn (\w+)(.*?)^\{$', path.read_text(), re.M | re.S):
-            yield f'{path.stem}::{found.group(1)}', ' '.join(found.group(2).split())
+            # the layout puts a long row of parameters on lines of their own, with a comma after the last
+            yield f'{path.stem}::{found.group(1)}', re.sub(r'(?<=\() |,? (?=\))', '', ' '.join(found.group(2).split()))
 
 
 # an edit: the functions that it is of, or the crate of laws, and what it claims, in its first line; and what it changes, in those below
