@@ -1,6 +1,6 @@
 #!/usr/bin/env bash
-# Every must-fail edit keeps the connectives of the code, and none was refused only because a proof cites a name that the edit took away, which would say nothing
-# of the contract. Reads what the gate's run of `rt ci` has said; of an edit that an earlier run of the same files tried, it said so then.
+# Every must-fail edit is refused at a fact that no longer holds: it keeps the connectives of the code, and the first error that `rt ci` tells of it is not that
+# it does not compile, nor that a proof's text no longer fits the shape of the code. Reads what the gate's run of `rt ci` has said.
 set -u
 cd "$(dirname "${BASH_SOURCE[0]}")/.." || exit 1
 python3 - <<'PYTHON'
@@ -8,24 +8,49 @@ import pathlib
 import re
 import sys
 
+# a relation or a connective where another one is expected: the code has another shape, which says nothing of its answer
+RELATION = r'`(?:[^`\s]*\.)?(?:◌[≤<≡]◌|◌&&◌|◌\|\|◌|not|is(?:Le|Lt|Eq)|leb|ltb|eqb|nat_(?:le|lt|eq))`'
+# a step of the proof's walk through the code
+STEP = r'`[^`\s]*\.Lts\.[A-Z][\w-]*`'
+UNFIT = [
+    r'only because a proof file names',
+    r'only by a limit of the prover',
+    r'has no `[A-Z][\w-]*`',
+    r'has no field `',
+    r'binders?, but its type has room',
+    r'expected type `[^`\s]*Need-[^`]*`,? but this has type `[^`\s]*Need-',
+    r'not in scope',
+    r'\d+ declarations? that depends? on',
+    rf'one has {RELATION}\s*\(expected\)[^`]*(?:`[^`]*`[^`]*)?the other has {RELATION}\s*\(found\)',
+    rf'one has {STEP}\s*\(expected\)[^`]*(?:`[^`]*`[^`]*)?the other has {STEP}\s*\(found\)',
+]
+
 
 def connectives(line):
     return re.findall(r' ([&|]) ', line)
 
 
-wrong = []
+log = pathlib.Path('target/ci.log')
+lines = log.read_text(errors='replace').splitlines() if log.exists() else []
+# what rt says of each edit: of one that an earlier run of the same files tried, what it said then
+said = dict(re.match(r'rt: must-fail (\S+?)(?:\.edit)?: (.*)', line).groups() for line in lines if re.match(r'rt: must-fail \S+: ', line))
+kept = {match[1] for line in lines if (match := re.match(r'rt: (\w+): (\d+) of its \2 must-fail edits were tried by an earlier run', line))}
+wrong = [] if lines else [f'{log} is not there: bash .ci/run writes it']
 edits = sorted(pathlib.Path('crates').glob('*/must-fail/*.edit'))
 for edit in edits:
+    name = f'{edit.parts[-3]}/{edit.stem}'
     old, new = ([connectives(line) for line in re.findall(rf'^{key}: (.*)', edit.read_text(), re.M)] for key in ('old', 'new'))
     if old != new:
-        wrong.append(f'{edit.parts[-3]}/{edit.stem}: other connectives')
-log = pathlib.Path('target/ci.log')
-if not log.exists():
-    wrong.append(f'{log} is not there: bash .ci/run writes it')
-else:
-    for line in log.read_text(errors='replace').splitlines():
-        if 'must-fail' in line and ('only because a proof file names' in line or 'NOT REFUSED' in line or 'BAD EDIT' in line or 'NOT TRIED' in line):
-            wrong.append(line)
+        wrong.append(f'{name}: other connectives')
+    if name not in said:
+        if edit.parts[-3] not in kept:
+            wrong.append(f'{name}: nothing is told of it')
+        continue
+    text = said[name]
+    if not text.startswith('refused, as it must be'):
+        wrong.append(f'{name}: {text[:200]}')
+    elif any(re.search(unfit, text) for unfit in UNFIT):
+        wrong.append(f'{name}: refused at the shape of the code: {text[:300]}')
 for line in wrong:
     print('must-fail:', line)
 print(f'must-fail: {len(edits)} edits, {len(wrong)} refused at no fact')

@@ -7,12 +7,6 @@ ghost use Rattle.io.specs.Counts.{IsPrefixLen};
 
 use base::{Bytes, Words, number};
 
-// the longest input
-const INPUT: Bytes = Bytes(4096);
-
-// room for it, and one byte more by which a longer input shows
-const ROOM: Bytes = Bytes(INPUT.0 + 1);
-
 // Where the register begins in a line, and where the message.
 const REGISTER: Bytes = Bytes(3);
 
@@ -79,9 +73,8 @@ fn read_words(line: &[u8], room: &mut [u16]) -> Words
     Words(n)
 }
 
-// The rooms hold the message of any line that the input may have.
 fn crc_of_bytes(line: &[u8]) -> u16 {
-    let mut room = [0u8; 2048];
+    let mut room = [0u8; 1024];
     let n = read_bytes(line, &mut room).0;
     crc::bytes(word(line, REGISTER), &room[..n])
 }
@@ -92,33 +85,21 @@ fn crc_of_words(line: &[u8]) -> u16 {
     crc::words(word(line, REGISTER), &room[..n])
 }
 
-// Bytes to standard output. Whether they were written is not asked.
-fn print(rt: HostRuntime, bytes: &[u8]) {
-    let _ = rt.stdout().write_all(bytes);
-}
-
-// A CRC in four hexadecimal digits.
-fn print_crc(rt: HostRuntime, crc: u16) {
-    let mut digits = [0u8; 16];
-    let count = io::hex(crc as u64, 4, &mut digits);
-    print(rt, &digits[..count]);
-}
-
 // A line begins with 0 for bytes, 08, and with 1 for words, 16.
-fn print_line(rt: HostRuntime, line: &[u8]) {
-    print(rt, line);
+fn print_line(line: &[u8]) {
+    io::write_all(1, line);
     if 0 < line.len() {
         let first = line[0];
         if first == b'0' {
-            print(rt, b" = ");
-            print_crc(rt, crc_of_bytes(line));
+            io::write_all(1, b" = ");
+            io::print_hex(1, crc_of_bytes(line) as u64, 4);
         }
         if first == b'1' {
-            print(rt, b" = ");
-            print_crc(rt, crc_of_words(line));
+            io::write_all(1, b" = ");
+            io::print_hex(1, crc_of_words(line) as u64, 4);
         }
     }
-    print(rt, b"\n");
+    io::write_all(1, b"\n");
 }
 
 // Where the line that begins at a place ends.
@@ -136,26 +117,17 @@ fn line_end(text: &[u8], from: usize) -> usize
     i
 }
 
-fn print_lines(rt: HostRuntime, text: &[u8]) {
+fn print_lines(text: &[u8]) {
     let mut at = 0;
     while at < text.len() {
         let end = line_end(text, at);
-        print_line(rt, &text[at..end]);
+        print_line(&text[at..end]);
         at = end + 1;
     }
 }
 
-fn main(rt: HostRuntime) {
-    let mut text = [0u8; ROOM.0];
-    let taken = program_reading::take(&mut rt.stdin(), &mut text);
-    if taken.failed {
-        program_output::complain(rt, b"crc_vectors: standard input cannot be read\n");
-        return;
-    }
-    let count = taken.count.0;
-    if INPUT.0 < count {
-        program_output::complain(rt, b"crc_vectors: the input has more than 4096 bytes\n");
-        return;
-    }
-    print_lines(rt, &text[..count]);
+fn main() {
+    let mut text = io::buffer();
+    let n = io::read_full(0, &mut text);
+    print_lines(&text[..n]);
 }

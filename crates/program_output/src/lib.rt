@@ -18,7 +18,7 @@ pub const ERROR: i32 = 2;
 // the most digits that a number has, a byte each
 const DIGITS: Bytes = Bytes(20);
 
-// Where the bytes go, `OUTPUT` or `ERROR`, how many of them stand on the page, and whether any were lost.
+// Where the bytes go, how many of them stand on the page, and whether any were lost.
 #[derive(Clone, Copy)]
 pub struct Out {
     pub descriptor: i32,
@@ -117,12 +117,12 @@ pub fn complain(rt: HostRuntime, bytes: &[u8]) {
     written(rt, ERROR, bytes);
 }
 
-// Writes all of the bytes, and whether that was done. No other descriptor is written.
+// Writes all of the bytes, and whether that was done. A descriptor that std has no stream of is written by the kit's io.
 fn written(rt: HostRuntime, descriptor: i32, bytes: &[u8]) -> bool {
     match descriptor {
         OUTPUT => rt.stdout().write_all(bytes).is_ok(),
         ERROR => rt.stderr().write_all(bytes).is_ok(),
-        _ => false,
+        _ => io::write_all(descriptor, bytes),
     }
 }
 

@@ -6,10 +6,10 @@ use Rattle.crc_vectors.proofs.print_lines.Statement.{statement}
 use Rattle.crc_vectors.proofs.print_lines.Tie as tie
 
 abbrev invariant-loop-at : tie.invariant-loop-at
-invariant-loop-at rt text at₀ at = at ≤ length text + 1
+invariant-loop-at text at₀ at = at ≤ length text + 1
 
 abbrev decreases-loop-at : tie.decreases-loop-at
-decreases-loop-at rt text at₀ at = length text - at
+decreases-loop-at text at₀ at = length text - at
 
 pub print_lines_spec : {M : Type 1} → statement M
 print_lines_spec =
