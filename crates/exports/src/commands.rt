@@ -29,6 +29,7 @@ fn unpacked(n: u64) -> Fields
 }
 
 // The command reader: the number of further bytes; the fields where nothing is refused.
+#[tactic(auto, unfolding(crate::specs::Answer::commanded, crate::specs::Answer::fields_after, base::specs::Refusal::answer))]
 pub fn hawserfen_read_command(catalogue: u8, mode: u8, bytes: &[u8], fields: &mut u64) -> u64
     ensures value { result ≡ says.commanded (read_reply catalogue mode bytes.now) }
     ensures fields_after { fields.new ≡ says.fields_after (read_reply catalogue mode bytes.now) fields.old }

@@ -1,5 +1,6 @@
 -- `chunk_compare::chunks` meets its contract: the loop of `Agreed`.
 use Prim.Native.Nat.{◌-◌}
+use native.Mathlib.Omega.{arith}
 use borrow.Author.Rules.{rules}
 use Rattle.chunk_compare.proofs.Difference.{Agreed, none-agreed, word-agreed, word-differs, all-agreed, shorter-differs}
 use Rattle.chunk_compare.proofs.chunks.Statement.{statement}
@@ -22,12 +23,6 @@ loop-again : tie.Need-loop-at-preserved invariant-loop-at decreases-loop-at
 loop-again c =
     word-agreed _ _ _ c.loop-at.invariant (search rules) (search rules) c.if-first-at.false
 
-returns-2 : tie.Need-returns-then-first-second invariant-loop-at decreases-loop-at
-returns-2 c = all-agreed _ _ _ c.loop-at.invariant (search rules) (search rules)
-
-returns-3 : tie.Need-returns invariant-loop-at decreases-loop-at
-returns-3 c = shorter-differs _ _ _ c.loop-at.invariant (search rules) c.if-first-second.false
-
 pub chunks_spec : {M : Type 1} → statement M
 chunks_spec =
     tie.close
@@ -44,5 +39,5 @@ chunks_spec =
     (λ c. search rules)
     (λ c. search rules)
     loop-again
-    returns-2
-    returns-3)
+    (λ c. all-agreed _ _ _ c.loop-at.invariant (search rules) (omega arith))
+    (λ c. shorter-differs _ _ _ c.loop-at.invariant (search rules) (λ z. omega (arith, z))))

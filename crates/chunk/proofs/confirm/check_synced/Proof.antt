@@ -5,7 +5,7 @@ use Prim.Native.Nat.{ℕ, ◌+◌}
 use lib.ListN.{length, drop}
 use lib.Dec.{eqb}
 use borrow.Author.Rules.{rules}
-use borrow.Author.Tests.{eq-eqb, ne_eqb, not-true, not-false}
+use borrow.Author.Tests.{eq-eqb, ne_eqb}
 use Rattle.chunk.specs.declared.Check.{Check}
 use Rattle.chunk.specs.Header.{headed, check_at}
 use Rattle.chunk.proofs.Headers.{headed-by-words, check-by-end, check-none}

@@ -35,13 +35,8 @@ loop-again c =
           ∙ ap (λ (n : ℕ). next_from a.sync a.words.now n) (sym (add-one c.loop-at.at)),
     )
 
-returns-2 : tie.Need-returns-then-places-at invariant-loop-at decreases-loop-at
+returns-2 : tie.Need-returns-then-words-at invariant-loop-at decreases-loop-at
 returns-2 c =
-    let a = c.args in
-    c.loop-at.invariant.1 ∙ found-last a.sync a.words.now c.loop-at.at (omega arith)
-
-returns-3 : tie.Need-returns-then-words-at invariant-loop-at decreases-loop-at
-returns-3 c =
     record { ahead = c.loop-at.invariant.0; room = omega arith; there = c.if-words-at.true; same = c.loop-at.invariant.1 }
 
 pub next_sync_spec : {M : Type 1} → statement M
@@ -58,5 +53,5 @@ next_sync_spec =
     (λ c. search rules)
     (λ c. search rules)
     loop-again
-    returns-2
-    returns-3)
+    (λ c. c.loop-at.invariant.1 ∙ found-last c.args.sync c.args.words.now c.loop-at.at (omega arith))
+    returns-2)
