@@ -69,7 +69,7 @@ wrong.extend(f'exports_c {x} says other than that of exports' for x in sorted(se
 wrong.extend(f'{crate} has {len(read)} contracts that are read' for crate, read in (('exports', rust), ('exports_c', for_c)) if len(read) != len(set(public(crate))))
 # what reads or writes a descriptor or a file, or takes the program's arguments, has no equation
 descriptors = {'program_reading::take', 'program_files::arguments', 'program_files::file', 'program_files::hear', 'program_output::complain'}
-descriptors |= {f'program_output::Out::{name}' for name in ('flush', 'text', 'number', 'refused')}
+descriptors |= {f'program_output::Printer::{name}' for name in ('flush', 'text', 'number', 'refused')}
 # and what has no answer at all, but states the theorems
 descriptors |= {'promises::hold'}
 wrong.extend(f'function {x} is an exception and not there' for x in sorted(descriptors - functions))

@@ -3,4 +3,3 @@ pub mod Refused
 pub mod XorLaws
 pub mod Linear
 pub mod Every
-pub mod Walk

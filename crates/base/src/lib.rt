@@ -14,7 +14,8 @@ pub struct Words(pub usize);
 #[derive(Clone, Copy)]
 pub struct Bytes(pub usize);
 
-// The reply of every writer of words: the words written, 0 on a refusal.
+// The reply of every writer of words: the words written, 0 on a refusal. That has its number and zeros, as `Demand1` says of the writers, so this is no Result.
+// `space_packet::Sent` counts bytes in the same way. One struct over both counts would be no plainer: its `settle` would need a trait for the zero of a count.
 #[derive(Clone, Copy)]
 pub struct Written {
     pub refusal: u8,

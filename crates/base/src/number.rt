@@ -6,22 +6,22 @@ ghost use Rattle.base.specs.Number as number;
 pub fn word(high: u8, low: u8) -> u16
     ensures { result ≡ number.word high low }
 {
-    (high as u16) * 256 + (low as u16)
+    u16::from_be_bytes([high, low])
 }
 
 pub fn high_byte(word: u16) -> u8
     ensures { result ≡ number.high_byte word }
 {
-    (word / 256) as u8
+    word.to_be_bytes()[0]
 }
 
 pub fn low_byte(word: u16) -> u8
     ensures { result ≡ number.low_byte word }
 {
-    (word % 256) as u8
+    word.to_be_bytes()[1]
 }
 
-// The low sixteen bits.
+// The low sixteen bits; `as` alone is proved only of a number that fits.
 pub fn low_word(x: u64) -> u16
     ensures { result ≡ number.low_word x }
 {

@@ -1,4 +1,5 @@
-// The refusal numbers, and the choice among a call's causes.
+// The refusal numbers, and the choice among a call's causes. They are numbers and no enum, and a verdict is one of them and no Result, since `Demand1` says of
+// each call where the number stands in its answer, with zeros beside it: so it goes from where it is found into the answer as it is.
 ghost use Rattle.std.specs.Prelude.{◌≡◌, cond};
 ghost use Rattle.base.specs.Refusal.{settled};
 
@@ -45,10 +46,7 @@ pub fn settle(verdict: u8, length: Words) -> Written
     ensures { result ≡ settled verdict length.0 }
 {
     if verdict == 0 {
-        return Written {
-            refusal: 0,
-            length: Words(length.0),
-        };
+        return Written { refusal: 0, length };
     }
     Written {
         refusal: verdict,

@@ -1,3 +1,2 @@
 pub mod RoomLaws
-pub mod Pasting
 pub mod Filling

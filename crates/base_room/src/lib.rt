@@ -4,73 +4,51 @@
 ghost use Rattle.std.specs.Prelude.{◌≡◌, ◌++◌, get_or};
 ghost use Rattle.base_room.specs.Room.{put};
 
-use base::{Bytes, Words};
+// What lent memory holds: words, or bytes. std's `Default` does not say which value it gives.
+pub trait Item: Copy {
+    ghost ZERO: { Self };
 
-// The word at a place, 0 past the end.
-pub fn word_at(words: &[u16], at: Words) -> u16
-    ensures { result ≡ get_or words.now at.0 0 }
-{
-    let i = at.0;
-    if i < words.len() { words[i] } else { 0 }
+    const ZERO: Self;
 }
 
-// The byte at a place, 0 past the end.
-pub fn byte_at(bytes: &[u8], at: Bytes) -> u8
-    ensures { result ≡ get_or bytes.now at.0 0 }
-{
-    let i = at.0;
-    if i < bytes.len() { bytes[i] } else { 0 }
+impl Item for u16 {
+    ghost ZERO = { 0 };
+
+    const ZERO: u16 = 0;
 }
 
-// The words at a place of the room, where they fit; else nothing.
-pub fn put_words(words: &[u16], room: &mut [u16], at: Words)
-    ensures { room.new ≡ put words.now at.0 room.old }
+impl Item for u8 {
+    ghost ZERO = { 0 };
+
+    const ZERO: u8 = 0;
+}
+
+// The item at a place, 0 past the end.
+pub fn at<T: Item>(items: &[T], place: usize) -> T
+    ensures { result ≡ get_or items.now place T.ZERO }
 {
-    let from = at.0;
-    let n = words.len();
-    if room.len() < n {
-        return;
-    }
-    if room.len() - n < from {
-        return;
-    }
-    let mut i = 0;
-    while i < n {
-        room[from + i] = words[i];
-        i += 1;
+    items.get(place).copied().unwrap_or(T::ZERO)
+}
+
+// The items at a place of the room, where they fit; else nothing. `copy_from_slice` would call C's `memmove`, and the archive for C needs nothing else linked.
+#[tactic(auto, using(crate::proofs::RoomLaws::put_laws))]
+pub fn put<T: Copy>(items: &[T], room: &mut [T], at: usize)
+    ensures { room.new ≡ put items.now at room.old }
+{
+    if at <= room.len() && items.len() <= room.len() - at {
+        for (i, item) in items.iter().enumerate() {
+            room[at + i] = *item;
+        }
     }
 }
 
-// Two runs of words end to end at the front of the room, where both fit; else nothing.
-pub fn put_joined(first: &[u16], second: &[u16], room: &mut [u16])
+// Two runs of items end to end at the front of the room, where both fit; else nothing.
+#[tactic(auto, using(crate::proofs::RoomLaws::put_laws))]
+pub fn put_joined<T: Copy>(first: &[T], second: &[T], room: &mut [T])
     ensures { room.new ≡ put (first.now ++ second.now) 0 room.old }
 {
-    let n = first.len();
-    if room.len() < n {
-        return;
-    }
-    if room.len() - n < second.len() {
-        return;
-    }
-    put_words(first, room, Words(0));
-    put_words(second, room, Words(n));
-}
-
-// The bytes at a place of the room, where they fit; else nothing.
-pub fn put_bytes(bytes: &[u8], room: &mut [u8], at: Bytes)
-    ensures { room.new ≡ put bytes.now at.0 room.old }
-{
-    let from = at.0;
-    let n = bytes.len();
-    if room.len() < n {
-        return;
-    }
-    if room.len() - n < from {
-        return;
-    }
-    let mut i = 0;
-    while i < n {
-        room[from + i] = bytes[i];
-        i += 1;
+    if first.len() <= room.len() && second.len() <= room.len() - first.len() {
+        put(first, room, 0);
+        put(second, room, first.len());
     }
 }

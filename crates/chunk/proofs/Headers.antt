@@ -59,9 +59,9 @@ unfolding legal
 legal-bounds h e = legal-size (kind h) (size h) (and_left (legal_size (kind h) (size h)) _ e)
 
 -- a header word of size 0 is illegal
-pub legal-empty : (h : ℕ) → size h ≡ 0 → legal h ≡ false
+pub legal_empty : (h : ℕ) → size h ≡ 0 → legal h ≡ false
 unfolding legal legal_size
-legal-empty h z = rw z
+legal_empty h z = rw z
 
 -- of any other size of 13 bits the rule of the kind alone tells: 8,191, which is too long, meets neither
 within-bounds : (n : ℕ) (b : Bool) → 1 ≤ n → n < 8192
@@ -76,13 +76,13 @@ within-bounds n b low high = by-bound (leb n 8190) refl
     by-bound true t = rw (le-leb 1 n low, t)
     by-bound false t = let e : n ≡ 8191 = omega (arith, leb-false n 8190 t) in rw e (too_long b)
 
-pub legal-image : (h : ℕ) → 1 ≤ size h → kind h ≡ 0 → legal h ≡ image_size (size h)
+pub legal_image : (h : ℕ) → 1 ≤ size h → kind h ≡ 0 → legal h ≡ image_size (size h)
 unfolding legal legal_size
-legal-image h low k = rw (eq-eqb (kind h) 0 k, within-bounds (size h) true low (mod-lt h (lit< tt)), and-true)
+legal_image h low k = rw (eq-eqb (kind h) 0 k, within-bounds (size h) true low (mod-lt h (lit< tt)), and-true)
 
-pub legal-health : (h : ℕ) → 1 ≤ size h → (kind h ≡ 0 → ⊥) → legal h ≡ health_size (size h) && eqb (camera h) 0
+pub legal_health : (h : ℕ) → 1 ≤ size h → (kind h ≡ 0 → ⊥) → legal h ≡ health_size (size h) && eqb (camera h) 0
 unfolding legal legal_size
-legal-health h low k = rw (ne_eqb (kind h) 0 k, within-bounds (size h) false low (mod-lt h (lit< tt)))
+legal_health h low k = rw (ne_eqb (kind h) 0 k, within-bounds (size h) false low (mod-lt h (lit< tt)))
 
 -- a header is the sync word and a legal header word
 pub headed-parts : (sync : ℕ) (ws : List ℕ) → headed sync ws ≡ true → (get_or ws 0 0 ≡ sync) × (1 < length ws) × (legal (get_or ws 1 0) ≡ true)
@@ -124,22 +124,22 @@ end-shifted n at l end e h = by_end (eqb end l) refl
     by_end false z = ne_eqb n (l - at) (λ q. eqb-false end l z (omega arith))
 
 module _ (sync : ℕ) (ws : List ℕ) (at : ℕ) where
-  pub headed-none : length ws < at + 2 → headed sync (drop at ws) ≡ false
-  headed-none h = no_header sync (drop at ws) (simp length-drop (omega arith))
+  pub headed_none : length ws < at + 2 → headed sync (drop at ws) ≡ false
+  headed_none h = no_header sync (drop at ws) (simp length-drop (omega arith))
 
   -- the two words of a header
-  pub headed-by-words : at + 1 < length ws → headed sync (drop at ws) ≡ eqb (get_or ws at 0) sync && legal (get_or ws (at + 1) 0)
+  pub headed_by_words : at + 1 < length ws → headed sync (drop at ws) ≡ eqb (get_or ws at 0) sync && legal (get_or ws (at + 1) 0)
   unfolding headed
-  headed-by-words h =
+  headed_by_words h =
       rw (drop-cons ws at 0 (omega arith), ← add-one at, drop-cons ws (at + 1) 0 h)
 
   -- a header lies within the recording
   pub headed-inside : headed sync (drop at ws) ≡ true → at + 1 < length ws
   headed-inside e = let h : 1 < length (drop at ws) = (headed-parts sync (drop at ws) e).1 in omega (arith, simp length-drop at h)
 
-  pub confirmed-none : headed sync (drop at ws) ≡ false → confirmed sync (drop at ws) ≡ false
+  pub confirmed_none : headed sync (drop at ws) ≡ false → confirmed sync (drop at ws) ≡ false
   unfolding confirmed
-  confirmed-none e = ap (λ (b : Bool). b && ends sync (span (get_or (drop at ws) 1 0)) (drop at ws)) e
+  confirmed_none e = ap (λ (b : Bool). b && ends sync (span (get_or (drop at ws) 1 0)) (drop at ws)) e
 
   -- the chunk there ends with the recording
   pub at-end : (end : ℕ) → at ≤ length ws → end ≡ at + 2 + size (get_or ws (at + 1) 0) → at_end (drop at ws) ≡ eqb end (length ws)
@@ -158,15 +158,15 @@ module _ (sync : ℕ) (ws : List ℕ) (at : ℕ) where
       let d : drop (span (get_or (drop at ws) 1 0)) (drop at ws) ≡ drop end ws = drop-drop (span (get_or (drop at ws) 1 0)) at ws ∙ ap (λ (m : ℕ). drop m ws) s in
       rw (e, l, d)
 
-  pub check-none : headed sync (drop at ws) ≡ false → check_at sync (drop at ws) ≡ Check.NotAChunk
+  pub check_none : headed sync (drop at ws) ≡ false → check_at sync (drop at ws) ≡ Check.NotAChunk
   unfolding check_at
-  check-none e = rw (confirmed-none e)
+  check_none e = rw (confirmed_none e)
 
 -- where a header stands, the end alone is left to look at: a legal header stands there, it is the recording's, or neither
-pub check-by-end : (sync : ℕ) (ws : List ℕ) (at end : ℕ) → headed sync (drop at ws) ≡ true → end ≡ at + 2 + size (get_or ws (at + 1) 0)
+pub check_by_end : (sync : ℕ) (ws : List ℕ) (at end : ℕ) → headed sync (drop at ws) ≡ true → end ≡ at + 2 + size (get_or ws (at + 1) 0)
     → check_at sync (drop at ws) ≡ cond (headed sync (drop end ws)) Check.Followed (cond (eqb end (length ws)) Check.AtEnd Check.NotAChunk)
 unfolding check_at
-check-by-end sync ws at end e n =
+check_by_end sync ws at end e n =
     rw (confirmed-by-end sync ws at end e n, at-end sync ws at end (omega (arith, headed-inside sync ws at e)) n)
     (by-header (headed sync (drop end ws)) refl)
   where

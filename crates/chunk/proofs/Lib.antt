@@ -3,3 +3,5 @@ pub mod Steps
 pub mod Marks
 pub mod Accounting
 pub mod Moved
+pub mod Synced
+pub mod Walking

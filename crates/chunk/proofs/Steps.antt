@@ -1,5 +1,6 @@
 -- The reading of a recording in steps of the search: from a place where no chunk is in hand, the words up to the next confirmed chunk are skipped,
 -- that chunk is listed, and the reading stands at its end with no chunk in hand. Places count from the recording's start; `drop p ws` are the words from p on.
+use Rattle.std.specs.Prelude.{Option, Some, None}
 use mathlib.Core.Path.{◌≡◌, refl, sym, ap, ap₂, subst, ◌∙◌}
 use mathlib.Core.Bool.{Bool, true, false, cond, ◌&&◌, and-false}
 use mathlib.Core.List.{List, [], ◌∷◌}
@@ -13,10 +14,9 @@ use lib.Dec.{eqb, ltb}
 use borrow.Author.Tests.{eq-eqb, ne_eqb, ltb-true, ltb-false}
 use Rattle.base.specs.declared.Words.{Words}
 use Rattle.chunk.specs.declared.Entry.{Entry}
-use Rattle.chunk.specs.declared.Found.{Found}
 use Rattle.chunk.specs.Header.{size, span, headed, ends, confirmed, at_end}
 use Rattle.chunk.specs.Reading.{entry, listed, skipped_from, left_at, listed_at, chunk_at, found, next_from}
-use Rattle.chunk.proofs.Headers.{confirmed-within, headed-none, confirmed-none, at-end}
+use Rattle.chunk.proofs.Headers.{confirmed-within, headed_none, headed_by_words, confirmed_none, at-end}
 
 -- ---- a chunk in hand is passed
 
@@ -75,8 +75,8 @@ skipped-one sync w ws false e =
 found-one : (sync at : ℕ) (w : ℕ) (ws : List ℕ) (b : Bool) → confirmed sync (w ∷ ws) ≡ b
     → found sync at (w ∷ ws) ≡ cond b (chunk_at at (get_or ws 0 0) (at_end (w ∷ ws))) (found sync (suc at) ws)
 unfolding found
-found-one sync at w ws true e = ap (λ (b : Bool). elim b as (λ x. Found) [ true ↦ chunk_at at (get_or ws 0 0) (at_end (w ∷ ws)) | false ↦ found sync (suc at) ws ]) e
-found-one sync at w ws false e = ap (λ (b : Bool). elim b as (λ x. Found) [ true ↦ chunk_at at (get_or ws 0 0) (at_end (w ∷ ws)) | false ↦ found sync (suc at) ws ]) e
+found-one sync at w ws true e = ap (λ (b : Bool). elim b as (λ x. Option (Entry × Words)) [ true ↦ chunk_at at (get_or ws 0 0) (at_end (w ∷ ws)) | false ↦ found sync (suc at) ws ]) e
+found-one sync at w ws false e = ap (λ (b : Bool). elim b as (λ x. Option (Entry × Words)) [ true ↦ chunk_at at (get_or ws 0 0) (at_end (w ∷ ws)) | false ↦ found sync (suc at) ws ]) e
 
 pub left_one : (sync n : ℕ) (w : ℕ) (ws : List ℕ) (b : Bool) → confirmed sync (w ∷ ws) ≡ b
     → left_at sync 0 (w ∷ ws) (suc n) ≡ left_at sync (cond b (suc (size (get_or ws 0 0))) 0) ws n
@@ -212,28 +212,37 @@ module _ (sync : ℕ) (ws : List ℕ) where
     noise : Noise sync ws p e.position.0
 
   -- no chunk is found where no word is left
-  pub found-end : (p : ℕ) → length ws ≤ p → next_from sync ws p ≡ Found.End
+  pub found-end : (p : ℕ) → length ws ≤ p → next_from sync ws p ≡ None
   unfolding found
   found-end p h = ap (found sync p) (drop_of_length-le ws h)
 
+  -- no chunk is found at a place that has another word than the sync word
+  pub found_beyond : (p : ℕ) → p + 1 < length ws → (get_or ws p 0 ≡ sync → ⊥) → next_from sync ws p ≡ next_from sync ws (p + 1)
+  found_beyond p h f =
+      found-later sync ws p (omega arith)
+      (confirmed_none sync ws p (headed_by_words sync ws p h ∙ rw (ne_eqb (get_or ws p 0) sync f)))
+      ∙ ap (λ (n : ℕ). next_from sync ws n) (sym (add-one p))
+
   -- nor where one word is left
-  pub found-last : (p : ℕ) → length ws ≤ p + 1 → next_from sync ws p ≡ Found.End
-  found-last p h = by_end (ltb p (length ws)) refl
+  pub found_last : (p : ℕ) → length ws ≤ p + 1 → next_from sync ws p ≡ None
+  found_last p h = by_end (ltb p (length ws)) refl
     where
-      by_end : (b : Bool) → ltb p (length ws) ≡ b → next_from sync ws p ≡ Found.End
+      by_end : (b : Bool) → ltb p (length ws) ≡ b → next_from sync ws p ≡ None
       by_end true l =
-          found-later sync ws p (ltb-true p (length ws) l) (confirmed-none sync ws p (headed-none sync ws p (omega arith)))
+          found-later sync ws p (ltb-true p (length ws) l) (confirmed_none sync ws p (headed_none sync ws p (omega arith)))
           ∙ found-end (suc p) (omega arith)
       by_end false l = found-end p (ltb-false p (length ws) l)
 
-  first-confirmed : (k p : ℕ) (e : Entry) (next : Words) → length ws ≤ p + k → next_from sync ws p ≡ Found.Chunk e next → First p e next
+  first-confirmed : (k p : ℕ) (e : Entry) (next : Words) → length ws ≤ p + k → next_from sync ws p ≡ Some (e, next) → First p e next
   first-confirmed zero p e next h f = let z : ◌≡◌ {A = ℕ} 0 1 = cc (found-end p (omega arith)) in absurd (omega arith)
   first-confirmed (suc k) p e next h f = by_end (first-confirmed k (suc p) e next (omega arith)) (ltb p (length ws)) refl
     where
-      by-check : (next_from sync ws (suc p) ≡ Found.Chunk e next → First (suc p) e next) → p < length ws → (b : Bool) → confirmed sync (drop p ws) ≡ b → First p e next
+      by-check : (next_from sync ws (suc p) ≡ Some (e, next) → First (suc p) e next) → p < length ws → (b : Bool) → confirmed sync (drop p ws) ≡ b → First p e next
       by-check more l true z =
-          let s : e ≡ entry p (get_or ws (suc p) 0) (at_end (drop p ws)) = cc (found_here sync ws p l z) in
-          let n : next ≡ record { 0 = p + span (get_or ws (suc p) 0) } = cc (found_here sync ws p l z) in
+          let both : ◌≡◌ {A = Entry × Words} (e, next) (entry p (get_or ws (suc p) 0) (at_end (drop p ws)), record { 0 = p + span (get_or ws (suc p) 0) }) =
+          cc (found_here sync ws p l z) in
+          let s : e ≡ entry p (get_or ws (suc p) 0) (at_end (drop p ws)) = ap (λ (x : Entry × Words). x.0) both in
+          let n : next ≡ record { 0 = p + span (get_or ws (suc p) 0) } = ap (λ (x : Entry × Words). x.1) both in
           subst (λ (x : Entry). First p x next) (sym s)
           (record { ahead = omega arith; there = l; confirms = z; word = refl; end = ap (λ (x : Words). x.0) n; noise = λ i a b. absurd (omega arith) })
       by-check more l false z =
@@ -247,20 +256,20 @@ module _ (sync : ℕ) (ws : List ℕ) where
             noise = noise-more sync ws p e.position.0 z r.noise;
           }
 
-      by_end : (next_from sync ws (suc p) ≡ Found.Chunk e next → First (suc p) e next) → (b : Bool) → ltb p (length ws) ≡ b → First p e next
+      by_end : (next_from sync ws (suc p) ≡ Some (e, next) → First (suc p) e next) → (b : Bool) → ltb p (length ws) ≡ b → First p e next
       by_end more true l = by-check more (ltb-true p (length ws) l) (confirmed sync (drop p ws)) refl
       by_end more false l = let z : ◌≡◌ {A = ℕ} 0 1 = cc (found-end p (ltb-false p (length ws) l)) in absurd (omega arith)
 
   -- no chunk is found: none is confirmed from here on
-  none-confirmed : (k p : ℕ) → length ws ≤ p + k → next_from sync ws p ≡ Found.End → Noise sync ws p (length ws)
+  none-confirmed : (k p : ℕ) → length ws ≤ p + k → next_from sync ws p ≡ None → Noise sync ws p (length ws)
   none-confirmed zero p h f = λ i a b. absurd (omega arith)
   none-confirmed (suc k) p h f = by_end (none-confirmed k (suc p) (omega arith)) (ltb p (length ws)) refl
     where
-      by-check : (next_from sync ws (suc p) ≡ Found.End → Noise sync ws (suc p) (length ws)) → p < length ws → (b : Bool) → confirmed sync (drop p ws) ≡ b → Noise sync ws p (length ws)
+      by-check : (next_from sync ws (suc p) ≡ None → Noise sync ws (suc p) (length ws)) → p < length ws → (b : Bool) → confirmed sync (drop p ws) ≡ b → Noise sync ws p (length ws)
       by-check more l true z = let x : ◌≡◌ {A = ℕ} 0 1 = cc (found_here sync ws p l z) in absurd (omega arith)
       by-check more l false z = noise-more sync ws p (length ws) z (more (sym (found-later sync ws p l z) ∙ f))
 
-      by_end : (next_from sync ws (suc p) ≡ Found.End → Noise sync ws (suc p) (length ws)) → (b : Bool) → ltb p (length ws) ≡ b → Noise sync ws p (length ws)
+      by_end : (next_from sync ws (suc p) ≡ None → Noise sync ws (suc p) (length ws)) → (b : Bool) → ltb p (length ws) ≡ b → Noise sync ws p (length ws)
       by_end more true l = by-check more (ltb-true p (length ws) l) (confirmed sync (drop p ws)) refl
       by_end more false l = let m : length ws ≤ p = ltb-false p (length ws) l in λ i a b. absurd (omega arith)
 
@@ -312,7 +321,7 @@ pub record Last (sync : ℕ) (ws : List ℕ) (p : ℕ) : Type 0 where
   pub skips : skipped_from sync 0 (drop p ws) ≡ length ws - p
 
 module _ (sync : ℕ) (ws : List ℕ) (p : ℕ) where
-  pub stepped : (e : Entry) (next : Words) → next_from sync ws p ≡ Found.Chunk e next → Next sync ws p e next.0
+  pub stepped : (e : Entry) (next : Words) → next_from sync ws p ≡ Some (e, next) → Next sync ws p e next.0
   stepped e next f =
       let r : First sync ws p e next = first-confirmed sync ws (length ws) p e next (omega arith) f in
       let q : ℕ = e.position.0 in
@@ -352,7 +361,7 @@ module _ (sync : ℕ) (ws : List ℕ) (p : ℕ) where
             ∙ ap (λ (m : ℕ). m - i) to;
       }
 
-  pub ended : next_from sync ws p ≡ Found.End → Last sync ws p
+  pub ended : next_from sync ws p ≡ None → Last sync ws p
   unfolding listed skipped_from
   ended f = record { noise = λ i a. silent i a (ltb i (length ws)) refl; lists = (by_end (ltb p (length ws)) refl).0; skips = (by_end (ltb p (length ws)) refl).1 }
     where
@@ -376,3 +385,7 @@ module _ (sync : ℕ) (ws : List ℕ) (p : ℕ) where
             listed-noise sync ws (length ws - p) p (omega arith) far ∙ ap (listed sync (p + (length ws - p)) 0) none_left,
             skipped-noise sync ws (length ws - p) p (omega arith) far ∙ ap (λ (r : List ℕ). (length ws - p) + skipped_from sync 0 r) none_left ∙ add-zero (length ws - p),
           )
+
+  -- the place past a chunk is ahead, and within the recording
+  pub stepped_past : (e : Entry) (next : Words) → next_from sync ws p ≡ Some (e, next) → (p < next.0) × (next.0 ≤ length ws)
+  stepped_past e next f = let s = stepped e next f in (omega (arith, s.end, s.ahead), s.within)

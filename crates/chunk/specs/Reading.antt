@@ -1,8 +1,8 @@
 -- FORMAT, "Chunks": the reading of a recording, by place. Every definition goes through the words one at a time; `left` is the number of words
 -- ahead that belong to a chunk which is listed already.
-use Rattle.std.specs.Prelude.{ℕ, zero, suc, ◌+◌, Bool, true, false, cond, ◌&&◌, ◌||◌, List, [], ◌∷◌, get_or, drop, leb, ltb, eqb}
+use Rattle.std.specs.Prelude.{ℕ, zero, suc, ◌+◌, Bool, true, false, cond, ◌&&◌, ◌||◌, List, [], ◌∷◌, get_or, drop, leb, ltb, eqb, Option, Some, None}
+use Rattle.base.specs.declared.Words.{Words}
 use Rattle.chunk.specs.declared.Entry.{Entry}
-use Rattle.chunk.specs.declared.Found.{Found}
 use Rattle.chunk.specs.Header.{size, span, confirmed, at_end}
 
 -- the entry of a chunk: its position, its header word, and whether it ends with the recording
@@ -62,24 +62,24 @@ unfoldable pub listed_at : ℕ → List ℕ → ℕ → Bool
 listed_at sync ws p = eqb (left_at sync 0 ws p) 0 && confirmed sync (drop p ws)
 
 -- what the search tells of a chunk: its entry, and the place past its words, where reading goes on
-abbrev pub chunk_at : ℕ → ℕ → Bool → Found
-chunk_at at h end = Found.Chunk (entry at h end) (record { 0 = at + span h })
+abbrev pub chunk_at : ℕ → ℕ → Bool → Option (Entry × Words)
+chunk_at at h end = Some (entry at h end, record { 0 = at + span h })
 
 -- The search: one word at a time until a chunk is confirmed or no words are left. The first word stands at `at`.
-unfoldable pub found : ℕ → ℕ → List ℕ → Found
-found sync at [] = Found.End
+unfoldable pub found : ℕ → ℕ → List ℕ → Option (Entry × Words)
+found sync at [] = None
 found sync at (w ∷ ws) = elim (confirmed sync (w ∷ ws)) [ true ↦ chunk_at at (get_or ws 0 0) (at_end (w ∷ ws)) | false ↦ found sync (suc at) ws ]
 
 -- the next confirmed chunk at or after the place p
-abbrev pub next_from : ℕ → List ℕ → ℕ → Found
+abbrev pub next_from : ℕ → List ℕ → ℕ → Option (Entry × Words)
 next_from sync ws p = found sync p (drop p ws)
 
 -- the number of each answer of the search
-abbrev pub found_number : Found → ℕ
-found_number Found.End = 0
-found_number (Found.Chunk e next) = 1
+abbrev pub found_number : Option (Entry × Words) → ℕ
+found_number None = 0
+found_number (Some (e, next)) = 1
 
 -- and its values: the chunk's position, its header word, 1 where it ends with the recording, and the place past it
-abbrev pub found_values : Found → List ℕ
-found_values Found.End = []
-found_values (Found.Chunk e next) = e.position.0 ∷ e.header ∷ cond e.end 1 0 ∷ next.0 ∷ []
+abbrev pub found_values : Option (Entry × Words) → List ℕ
+found_values None = []
+found_values (Some (e, next)) = e.position.0 ∷ e.header ∷ cond e.end 1 0 ∷ next.0 ∷ []

@@ -8,6 +8,9 @@ use base::Words;
 // the words of the header
 pub const HEADER: Words = Words(2);
 
+// the shortest chunk: its header, and a unit with one data word
+pub const SHORTEST: Words = Words(HEADER.0 + confirm::LEAST_UNIT.0);
+
 // the longest payload
 const LONGEST: Words = Words(8190);
 
@@ -15,16 +18,17 @@ const LONGEST: Words = Words(8190);
 pub fn size_of(header: u16) -> Words
     ensures { result.0 ≡ size header }
 {
-    Words((header % 8192) as usize)
+    Words(usize::from(header % 8192))
 }
 
+// 1 to 3, or 0 for none: a number like the kind, and passed on to the same calls
 pub fn camera_of(header: u16) -> u16
     ensures { result ≡ camera header }
 {
     header / 8192 % 4
 }
 
-// 0 image, 1 health
+// 0 image, 1 health: a number and no enum, since `legal_size` and `write_chunk` answer of any number of a kind
 pub fn kind_of(header: u16) -> u16
     ensures { result ≡ kind header }
 {
@@ -32,26 +36,25 @@ pub fn kind_of(header: u16) -> u16
 }
 
 // Whether a chunk of the kind may have a payload of this size.
+#[tactic(auto, unfolding(crate::specs::Header::legal_size))]
 pub fn legal_size(kind: u16, size: Words) -> bool
     ensures { result ≡ legal_size kind size.0 }
 {
-    let n = size.0;
-    let within = (1 <= n) & (n <= LONGEST.0);
-    if kind == 0 {
-        return within & confirm::image_size(size);
-    }
-    within & confirm::health_size(size)
+    let of_kind = if kind == 0 {
+        confirm::image_size(size)
+    } else {
+        confirm::health_size(size)
+    };
+    (1..=LONGEST.0).contains(&size.0) && of_kind
 }
 
 // What stands at a place: a chunk has a legal header, and its end has one too or is the recording's.
+#[tactic(auto, using(crate::proofs::Headers::headed_none, crate::proofs::Headers::headed_by_words, crate::proofs::Headers::check_none))]
 pub fn check(words: &[u16], sync: u16, at: Words) -> Check
     ensures { result ≡ check_at sync (drop at.0 words.now) }
 {
     let place = at.0;
-    if confirm::places(words).0 <= place {
-        return Check::NotAChunk;
-    }
-    if words[place] != sync {
+    if confirm::places(words).0 <= place || words[place] != sync {
         return Check::NotAChunk;
     }
     confirm::check_synced(words, sync, at)
@@ -61,20 +64,12 @@ pub fn check(words: &[u16], sync: u16, at: Words) -> Check
 pub fn is_chunk(check: Check) -> bool
     ensures { result ≡ is_chunk check }
 {
-    match check {
-        Check::NotAChunk => false,
-        Check::Followed => true,
-        Check::AtEnd => true,
-    }
+    matches!(check, Check::Followed | Check::AtEnd)
 }
 
 // Whether it found one that ends with the recording.
 pub fn is_at_end(check: Check) -> bool
     ensures { result ≡ is_at_end check }
 {
-    match check {
-        Check::NotAChunk => false,
-        Check::Followed => false,
-        Check::AtEnd => true,
-    }
+    matches!(check, Check::AtEnd)
 }

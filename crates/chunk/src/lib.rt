@@ -4,10 +4,12 @@
 mod confirm;
 pub mod header;
 pub mod search;
+pub mod walk;
 
 use base::Words;
 
-// One listed chunk: where it begins, its header word, and the mark that it ends with the recording.
+// One listed chunk: where it begins, its header word, and the mark that it ends with the recording. It has no words, since the register is a list of these in
+// memory that the caller lends; so a call that looks into a chunk asks that it lies inside the words that stand beside it.
 #[derive(Clone, Copy)]
 pub struct Entry {
     pub position: Words,
@@ -21,18 +23,4 @@ pub enum Check {
     NotAChunk,
     Followed,
     AtEnd,
-}
-
-// What a search finds: the next chunk and the place past it, or the end of the recording.
-#[derive(Clone, Copy)]
-pub enum Found {
-    Chunk(Entry, Words),
-    End,
-}
-
-// Where the sync word stands, from a place on.
-#[derive(Clone, Copy)]
-enum Sync {
-    At(Words),
-    Nowhere,
 }

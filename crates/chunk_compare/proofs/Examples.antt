@@ -1,11 +1,10 @@
 -- FORMAT, "Comparing recordings": its example, and the three ways in which words can differ, by computation.
-use Rattle.std.specs.Prelude.{◌≡◌, refl, [], ◌∷◌, ℕ}
+use Rattle.std.specs.Prelude.{◌≡◌, refl, None, [], ◌∷◌, ℕ}
 use Rattle.base.specs.Refusal.{answer}
 use Rattle.base_room.specs.Room.{put}
 use Rattle.chunk.specs.Header.{legal_size, legal, headed, ends, confirmed}
 use Rattle.chunk.specs.Reading.{listed}
 use Rattle.chunk.specs.Examples.{listing}
-use Rattle.chunk_compare.specs.declared.Pair.{Pair}
 use Rattle.chunk_compare.specs.Pairs.{differs, first_difference, paired}
 use Rattle.chunk_compare.specs.Examples.{heard}
 use Rattle.chunk_compare.specs.Compare.{compared, refused, compare_reply, compare_room}
@@ -14,7 +13,7 @@ use Rattle.chunk_compare.specs.Compare.{compared, refused, compare_reply, compar
 words : (first_difference (5 ∷ 6 ∷ 7 ∷ []) (5 ∷ 8 ∷ 7 ∷ []) ≡ differs 1)
     × (first_difference (5 ∷ 6 ∷ []) (5 ∷ 6 ∷ 7 ∷ []) ≡ differs 2)
     × (first_difference (5 ∷ []) [] ≡ differs 0)
-    × (first_difference (5 ∷ 6 ∷ []) (5 ∷ 6 ∷ []) ≡ Pair.Same)
+    × (first_difference (5 ∷ 6 ∷ []) (5 ∷ 6 ∷ []) ≡ None)
 unfolding first_difference
 words = (refl, refl, refl, refl)
 

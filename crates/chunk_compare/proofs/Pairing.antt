@@ -1,18 +1,21 @@
 -- The loop that compares: the numbers of the pairs that the rest of both recordings gives, put into the list as it is, give the whole answer.
 use mathlib.Core.Path.{◌≡◌, refl, sym, ap, ap₂, ◌∙◌}
-use mathlib.Core.List.{List, [], ◌∷◌, ◌++◌}
+use mathlib.Core.List.{List, [], ◌∷◌, ◌++◌, append_assoc}
 use Prim.Native.Nat.{ℕ, ◌+◌, ◌-◌, ◌≤◌, ◌<◌}
 use native.Mathlib.Omega.{arith}
-use lib.ListN.{length, take, drop, length-take, length-map}
+use lib.ListN.{length, take, drop, set, length-take, length-map}
 use borrow.Author.Tests.{ltb-false}
+use Rattle.std.proofs.Common.{Option, add-one}
+use Rattle.std.proofs.lemmas.List.{set_split}
 use Rattle.base.specs.Refusal.{verdict}
 use Rattle.base.proofs.Refused.{spared, answer-no, answer-yes, answer-number}
 use Rattle.base_room.specs.Room.{put}
+use Rattle.base_room.proofs.RoomLaws.{put-fits}
 use Rattle.base_room.proofs.Filling.{Filled, filled_none, filled_more, filled-all}
 use Rattle.chunk.specs.declared.Entry.{Entry}
 use Rattle.chunk.specs.Header.{span}
 use Rattle.chunk.proofs.Steps.{listed_from, Next, Last}
-use Rattle.chunk_compare.specs.declared.Pair.{Pair}
+use Rattle.base.specs.declared.Words.{Words}
 use Rattle.chunk_compare.specs.declared.Compared.{Compared}
 use Rattle.chunk_compare.specs.Pairs.{chunk_words, first_difference, paired, pairs_of, pair_number, pair_numbers}
 use Rattle.chunk_compare.specs.Compare.{pair_count, compare_causes, compare_reply, compare_room}
@@ -26,12 +29,18 @@ module _ (sync : ℕ) (ws : List ℕ) (from : ℕ) (e : Entry) (n : ℕ) (s : Ne
   chunk_part = let l : n - e.position.0 ≡ span e.header = omega (arith, s.end) in ap (λ (m : ℕ). take m (drop e.position.0 ws)) l
 
   -- so the word at which it differs from others is a 16-bit number
-  pub word_fits : (ys : List ℕ) (p : Pair) → p ≡ first_difference (take (n - e.position.0) (drop e.position.0 ws)) ys → pair_number p < 65536
+  pub word_fits : (ys : List ℕ) (p : Option Words) → p ≡ first_difference (take (n - e.position.0) (drop e.position.0 ws)) ys → pair_number p < 65536
   word_fits ys p q =
       let xs : List ℕ = take (n - e.position.0) (drop e.position.0 ws) in
       omega (arith, ap pair_number q, difference-within xs ys, length-take (n - e.position.0) (drop e.position.0 ws), s.end, s.most)
 
 -- ---- the list
+
+-- one entry written is put there
+set-is-put : (list : List ℕ) (k x : ℕ) → k < length list → set list k x ≡ put (x ∷ []) k list
+set-is-put list k x h =
+    set_split list k x h ∙ ap (λ (i : ℕ). take k list ++ (x ∷ drop i list)) (sym (add-one k))
+    ∙ sym (append_assoc (take k list) (x ∷ []) (drop (k + 1) list)) ∙ sym (put-fits (x ∷ []) k list (omega arith))
 
 module _ (sync : ℕ) (a b : List ℕ) where
   -- the numbers of the pairs that the rest of both recordings gives
@@ -57,10 +66,10 @@ module _ (sync : ℕ) (a b : List ℕ) where
 
         pub pair-told : (x : ℕ)
             → x ≡ pair_number (first_difference (take (n - e.position.0) (drop e.position.0 a)) (take (m - f.position.0) (drop f.position.0 b)))
-            → (list₁ : List ℕ) → list₁ ≡ put (x ∷ []) k list → Told list₁ n m (k + 1)
-        pair-told x q list₁ p =
+            → Told (set list k x) n m (k + 1)
+        pair-told x q =
             let w = q ∙ ap pair_number (ap₂ first_difference (chunk_part sync a first-from e n s) (chunk_part sync b second_from f m r)) in
-            filled_more _ _ _ _ _ _ t (x ∷ []) (left_from n m) (first-left ∙ ap (λ (y : ℕ). (y ∷ []) ++ left_from n m) (sym w)) list₁ p (k + 1) refl
+            filled_more _ _ _ _ _ _ t (x ∷ []) (left_from n m) (first-left ∙ ap (λ (y : ℕ). (y ∷ []) ++ left_from n m) (sym w)) _ (set-is-put list k x room-left) (k + 1) refl
 
       -- one of the recordings has no more chunks
       pub all_told : left_from first-from second_from ≡ [] → list ≡ put (pair_numbers (pairs_of sync a b)) 0 list₀
@@ -70,9 +79,14 @@ module _ (sync : ℕ) (a b : List ℕ) where
   unfolding paired
   first_ended first-from second_from l = ap (λ (es : List Entry). pair_numbers (paired a b es (listed_from sync b second_from))) l.lists
 
-  pub second_ended : (first-from second_from : ℕ) (e : Entry) (n : ℕ) → Next sync a first-from e n → Last sync b second_from → left_from first-from second_from ≡ []
+  none_paired : (es : List Entry) → pair_numbers (paired a b es []) ≡ []
   unfolding paired
-  second_ended first-from second_from e n s l = ap₂ (λ (es fs : List Entry). pair_numbers (paired a b es fs)) s.lists l.lists
+  none_paired [] = refl
+  none_paired (e ∷ es) = refl
+
+  pub second_ended : (first-from second_from : ℕ) → Last sync b second_from → left_from first-from second_from ≡ []
+  second_ended first-from second_from l =
+      ap (λ (fs : List Entry). pair_numbers (paired a b (listed_from sync a first-from) fs)) l.lists ∙ none_paired (listed_from sync a first-from)
 
   -- ---- the list after the call
 

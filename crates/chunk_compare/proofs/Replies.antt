@@ -13,21 +13,21 @@ use Rattle.chunk_compare.specs.Compare.{pair_count, compared, refused, compare_r
 use Rattle.chunk_compare.proofs.Lengths.{paired-length}
 
 module _ (sync : ℕ) (a b : List ℕ) (entries : ℕ) where
-  pub too-long-refused : too_long a || too_long b ≡ true → refused wrong_length ≡ compare_reply sync a b entries
+  pub too_long_refused : too_long a || too_long b ≡ true → refused wrong_length ≡ compare_reply sync a b entries
   unfolding compare_reply answer
-  too-long-refused h = sym (simp h)
+  too_long_refused h = sym (simp h)
 
   module _ (h : too_long a || too_long b ≡ false) (pairs : ℕ) (e : pairs ≡ min (length (reading sync a)) (length (reading sync b))) where
     counted : pairs ≡ pair_count sync a b
     counted = e ∙ sym (paired-length a b (reading sync a) (reading sync b))
 
-    pub too-few-refused : entries < pairs → refused no_room ≡ compare_reply sync a b entries
+    pub too_few_refused : entries < pairs → refused no_room ≡ compare_reply sync a b entries
     unfolding compare_reply answer
-    too-few-refused l = sym (simp (h, lt-ltb entries (pair_count sync a b) (omega (arith, counted))))
+    too_few_refused l = sym (simp (h, lt-ltb entries (pair_count sync a b) (omega (arith, counted))))
 
-    pub enough-compared : pairs ≤ entries
-        → compared 0 pairs (length (reading sync a) - pairs) (length (reading sync b) - pairs) ≡ compare_reply sync a b entries
+    pub enough_compared : pairs ≤ entries → (n m : ℕ) → n ≡ length (reading sync a) → m ≡ length (reading sync b)
+        → compared 0 pairs (n - pairs) (m - pairs) ≡ compare_reply sync a b entries
     unfolding compare_reply answer
-    enough-compared l =
-        ap (λ (n : ℕ). compared 0 n (length (reading sync a) - n) (length (reading sync b) - n)) counted
-        ∙ sym (simp (h, le-ltb entries (pair_count sync a b) (omega (arith, counted))))
+    enough_compared l n m p q =
+        rw (p, q) (ap (λ (k : ℕ). compared 0 k (length (reading sync a) - k) (length (reading sync b) - k)) counted
+        ∙ sym (simp (h, le-ltb entries (pair_count sync a b) (omega (arith, counted)))))

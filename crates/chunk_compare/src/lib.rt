@@ -1,22 +1,17 @@
 // Two recordings compared: their listed chunks are paired in order, and of each pair the first word that differs is told.
 #![tactic(auto)]
 
-ghost use Rattle.std.specs.Prelude.{◌≡◌, ◌<◌, min, length};
+ghost use Rattle.std.specs.Prelude.{◌≡◌, ◌<◌, ◌==◌, length};
+ghost use Rattle.std.specs.List.{zip, prefix_len};
 ghost use Rattle.chunk_compare.specs.Pairs.{first_difference, pair_number, pair_said};
 ghost use Rattle.chunk_compare.specs.Compare.{refused, compare_reply, compare_room};
 
 use base::{Words, limit, refusal};
-use chunk::{Found, search};
+use chunk::search;
 use chunk_reading::counting;
 
-// What is told of two chunks: they are the same, or differ first at this word, counted from their sync words.
-#[derive(Clone, Copy)]
-pub enum Pair {
-    Same,
-    Differs(Words),
-}
-
-// What a comparison answers: the pairs, and the chunks of each recording that are left over.
+// What a comparison answers: the pairs, and the chunks of each recording that are left over. A refusal has its number and zeros: `Demand1` says so of this
+// answer, so it is no Result.
 #[derive(Clone, Copy)]
 pub struct Compared {
     pub refusal: u8,
@@ -25,50 +20,45 @@ pub struct Compared {
     pub second_left: usize,
 }
 
-// The smaller of two numbers.
-fn least(one: usize, other: usize) -> usize
-    ensures { result ≡ min one other }
+// How many words two rows agree in, from their first words on.
+fn agreed(first: &[u16], second: &[u16]) -> usize
+    ensures { result ≡ prefix_len (λ p. p.0 == p.1) (zip first.now second.now) }
 {
-    if one < other { one } else { other }
+    first
+        .iter()
+        .zip(second)
+        .take_while(|(one, other)| **one == **other)
+        .count()
 }
 
-// The first word at which two rows of words differ; where one is a prefix of the other, the shorter length.
-pub fn chunks(first: &[u16], second: &[u16]) -> Pair
+// The first word at which two rows of words differ, counted from 0; none where they are the same. Where one is a prefix of the other, the shorter length.
+#[tactic(auto, using(crate::proofs::Difference::agreed_told))]
+pub fn chunks(first: &[u16], second: &[u16]) -> Option<Words>
     ensures { result ≡ first_difference first.now second.now }
 {
-    let shorter = least(first.len(), second.len());
-    let mut at = 0;
-    while at < shorter {
-        if first[at] != second[at] {
-            return Pair::Differs(Words(at));
-        }
-        at += 1;
+    let alike = agreed(first, second);
+    if alike == first.len() && alike == second.len() {
+        return None;
     }
-    if first.len() == second.len() {
-        return Pair::Same;
-    }
-    Pair::Differs(Words(at))
+    Some(Words(alike))
 }
 
-// An answer as an entry of the list: 0 for the same, else the word.
-fn entry_of(pair: Pair) -> u16
+// What is told of a pair as an entry of the list: 0 for the same, else the word. It asks that the word fits, so it is no `From`, and `as` is enough.
+fn entry_of(pair: Option<Words>) -> u16
     requires { pair_number pair < 65536 }
     ensures { result ≡ pair_number pair }
 {
-    match pair {
-        Pair::Same => 0,
-        Pair::Differs(word) => word.0 as u16,
-    }
+    pair.map_or(0, |word| word.0 as u16)
 }
 
 // What an entry of the list says.
-pub fn said(entry: u16) -> Pair
+pub fn said(entry: u16) -> Option<Words>
     ensures { result ≡ pair_said entry }
 {
     if entry == 0 {
-        return Pair::Same;
+        return None;
     }
-    Pair::Differs(Words(entry as usize))
+    Some(Words(usize::from(entry)))
 }
 
 fn refused(number: u8) -> Compared
@@ -83,21 +73,22 @@ fn refused(number: u8) -> Compared
 }
 
 // The reply, for a list of so many entries.
+#[tactic(auto, using(crate::proofs::Replies::too_long_refused, crate::proofs::Replies::too_few_refused, crate::proofs::Replies::enough_compared))]
 fn look(first: &[u16], second: &[u16], sync: u16, entries: usize) -> Compared
     ensures { result ≡ compare_reply sync first.now second.now entries }
 {
-    if limit::too_long(first) | limit::too_long(second) {
+    if limit::too_long(first) || limit::too_long(second) {
         return refused(refusal::LENGTH);
     }
     let of_first = counting::count(first, sync).chunks;
     let of_second = counting::count(second, sync).chunks;
-    let pairs = least(of_first, of_second);
+    let pairs = of_first.min(of_second);
     if entries < pairs {
         return refused(refusal::ROOM);
     }
     Compared {
         refusal: 0,
-        pairs: pairs,
+        pairs,
         first_left: of_first - pairs,
         second_left: of_second - pairs,
     }
@@ -113,24 +104,12 @@ pub fn recordings(first: &[u16], second: &[u16], sync: u16, list: &mut [u16]) ->
     if reply.refusal != 0 {
         return reply;
     }
-    let mut first_from = 0;
-    let mut second_from = 0;
-    let mut k = 0;
-    loop {
-        let found = search::next(first, sync, Words(first_from));
-        let Found::Chunk(one, past_one) = found else {
-            return reply;
-        };
-        let opposite = search::next(second, sync, Words(second_from));
-        let Found::Chunk(other, past_other) = opposite else {
-            return reply;
-        };
-        let at_one = one.position.0;
-        let at_other = other.position.0;
-        first_from = past_one.0;
-        second_from = past_other.0;
-        let pair = chunks(&first[at_one..first_from], &second[at_other..second_from]);
-        base_room::put_words(&[entry_of(pair)], list, Words(k));
-        k += 1;
+    let pairs = search::chunks(first, sync).zip(search::chunks(second, sync));
+    for (k, ((one, past_one), (other, past_other))) in pairs.enumerate() {
+        let of_first = &first[one.position.0..past_one.0];
+        let of_second = &second[other.position.0..past_other.0];
+        let pair = chunks(of_first, of_second);
+        list[k] = entry_of(pair);
     }
+    reply
 }

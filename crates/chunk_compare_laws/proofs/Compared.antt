@@ -1,5 +1,6 @@
 -- A recording and itself: every pair has the same words. The other order: the pairs are the same, and so are the causes, since it does not matter which
 -- recording is too long. How many: as many pairs as the shorter list has chunks.
+use Rattle.std.proofs.Common.{Option, None}
 use mathlib.Core.Path.{◌≡◌, refl, ap, ap₂, ◌∙◌}
 use mathlib.Core.Bool.{Bool, true, false, cond, or_comm}
 use mathlib.Core.List.{List, [], ◌∷◌}
@@ -16,7 +17,7 @@ use Rattle.base_room.specs.Room.{put}
 use Rattle.chunk.specs.Reading.{reading}
 use Rattle.chunk_reading.specs.declared.Survey.{Survey}
 use Rattle.chunk_reading.specs.Counting.{survey_causes, survey_of, survey_reply}
-use Rattle.chunk_compare.specs.declared.Pair.{Pair}
+use Rattle.base.specs.declared.Words.{Words}
 use Rattle.chunk_compare.specs.declared.Compared.{Compared}
 use Rattle.chunk_compare.specs.Pairs.{pairs_of, pair_numbers}
 use Rattle.chunk_compare.specs.Compare.{pair_count, compare_causes, compare_of, compared, refused, compare_reply, compare_room}
@@ -37,7 +38,7 @@ itself-reply sync a =
 
 pub itself-is-same : ItselfIsSame
 itself-is-same sync a list z =
-    let same : pairs_of sync a a ≡ replicate (length (reading sync a)) Pair.Same = paired-itself a (reading sync a) in
+    let same : pairs_of sync a a ≡ replicate (length (reading sync a)) None = paired-itself a (reading sync a) in
     record {
       reply = accepted-reply sync a a list z ∙ itself-reply sync a;
       entries = told-numbers sync a a list z ∙ ap pair_numbers same ∙ numbers-same (length (reading sync a));
@@ -61,11 +62,11 @@ module _ (sync : ℕ) (a b : List ℕ) where
 
   same-verdict : (entries : ℕ) → verdict (compare_causes sync b a entries) ≡ verdict (compare_causes sync a b entries)
   same-verdict entries =
-      ap₂ (λ (t : Bool) (ps : List Pair). verdict ((wrong_length, t) ∷ (no_room, ltb entries (length ps)) ∷ [])) (or_comm (too_long b) (too_long a)) same-pairs
+      ap₂ (λ (t : Bool) (ps : List (Option Words)). verdict ((wrong_length, t) ∷ (no_room, ltb entries (length ps)) ∷ [])) (or_comm (too_long b) (too_long a)) same-pairs
 
   -- what is left over changes places
   same_left : compare_of sync b a ≡ exchanged (compare_of sync a b)
-  same_left = ap (λ (ps : List Pair). compared 0 (length ps) (length (reading sync b) - length ps) (length (reading sync a) - length ps)) same-pairs
+  same_left = ap (λ (ps : List (Option Words)). compared 0 (length ps) (length (reading sync b) - length ps) (length (reading sync a) - length ps)) same-pairs
 
   exchanged-reply : (entries : ℕ) → compare_reply sync b a entries ≡ exchanged (compare_reply sync a b entries)
   unfolding compare_reply
@@ -75,7 +76,7 @@ module _ (sync : ℕ) (a b : List ℕ) where
 
   exchanged-room : (list : List ℕ) → compare_room sync b a list ≡ compare_room sync a b list
   unfolding compare_room
-  exchanged-room list = ap₂ (λ (v : ℕ) (ps : List Pair). answer v (λ x. list) (put (pair_numbers ps) 0 list)) (same-verdict (length list)) same-pairs
+  exchanged-room list = ap₂ (λ (v : ℕ) (ps : List (Option Words)). answer v (λ x. list) (put (pair_numbers ps) 0 list)) (same-verdict (length list)) same-pairs
 
 pub compared-in-either-order : ComparedInEitherOrder
 compared-in-either-order sync a b = record { reply = exchanged-reply sync a b; room = exchanged-room sync a b }

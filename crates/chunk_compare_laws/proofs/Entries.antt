@@ -1,4 +1,5 @@
 -- What an entry tells: the number of the pair's answer, which is true of the words of the two chunks (`Words`) and says it again (`Pairs`).
+use Rattle.std.proofs.Common.{Option, None}
 use mathlib.Core.Path.{◌≡◌, refl, ap, ◌∙◌}
 use mathlib.Core.List.{List, map}
 use Prim.Native.Nat.{ℕ, ◌<◌}
@@ -6,7 +7,7 @@ use native.Mathlib.Omega.{arith}
 use Rattle.chunk.specs.declared.Entry.{Entry}
 use Rattle.chunk.specs.Reading.{reading}
 use Rattle.chunk_laws.specs.Ends.{Exactly}
-use Rattle.chunk_compare.specs.declared.Pair.{Pair}
+use Rattle.base.specs.declared.Words.{Words}
 use Rattle.chunk_compare.specs.Pairs.{chunk_words, differs, pairs_of, pair_number, pair_said}
 use Rattle.chunk_compare.proofs.Difference.{said-word}
 use Rattle.chunk_compare_laws.specs.Words.{PartAt}
@@ -34,7 +35,7 @@ module _ (sync : ℕ) (a b : List ℕ) (e f : Entry) (c : Chunk sync a e) (d : C
   ys = chunk_words b f
 
   -- the number of an answer that numbers tell stands exactly where it is true
-  number-true : (p : Pair) → Coded p → Exactly (pair_number (answer_of a b e f) ≡ pair_number p) (Says p xs ys)
+  number-true : (p : Option Words) → Coded p → Exactly (pair_number (answer_of a b e f) ≡ pair_number p) (Says p xs ys)
   number-true p k = (
     λ n. (answered p xs ys).0 (coded-once (answer_of a b e f) p (coded sync a b e f c d) k n),
     λ s. ap pair_number ((answered p xs ys).1 s),
@@ -44,7 +45,7 @@ module _ (sync : ℕ) (a b : List ℕ) (e f : Entry) (c : Chunk sync a e) (d : C
   word-true n h = number-true (differs n) (said-word n (λ z. omega arith))
 
   number-is-true : TrueEntry a b e f (pair_number (answer_of a b e f))
-  number-is-true = record { same = number-true Pair.Same refl; parts = word-true }
+  number-is-true = record { same = number-true None refl; parts = word-true }
 
   number-header-first : HeaderFirst a b e f (pair_number (answer_of a b e f))
   number-header-first = record {

@@ -1,5 +1,6 @@
 -- The rows of pairs, by their chunks: which chunks are in them, and which number stands for each. The number 0 stands for the same,
 -- and word 0 is no answer of two listed chunks, so a number says its answer again (`coded`).
+use Rattle.std.proofs.Common.{Option, None, Some}
 use mathlib.Core.Path.{◌≡◌, refl, sym, ap, ap₂, ◌∙◌}
 use mathlib.Core.List.{List, [], ◌∷◌, map}
 use mathlib.Core.Logic.{inl, inr}
@@ -9,7 +10,7 @@ use lib.ListN.{length, get_or, replicate}
 use Rattle.chunk.specs.declared.Entry.{Entry}
 use Rattle.chunk.specs.Reading.{reading}
 use Rattle.chunk_laws.specs.Listed.{Among}
-use Rattle.chunk_compare.specs.declared.Pair.{Pair}
+use Rattle.base.specs.declared.Words.{Words}
 use Rattle.chunk_compare.specs.Pairs.{chunk_words, first_difference, paired, pairs_of, pair_number, pair_said, pair_numbers}
 use Rattle.chunk_compare.proofs.Difference.{said-word}
 use Rattle.chunk_compare_laws.specs.Words.{PartAt}
@@ -18,7 +19,7 @@ use Rattle.chunk_compare_laws.proofs.Words.{Says, answer-true, answered, words-e
 use Rattle.chunk_compare_laws.proofs.Chunks.{Chunk, listed-chunk, not-at-first}
 
 -- what is told of a pair
-abbrev pub answer_of : List ℕ → List ℕ → Entry → Entry → Pair
+abbrev pub answer_of : List ℕ → List ℕ → Entry → Entry → Option Words
 answer_of a b e f = first_difference (chunk_words a e) (chunk_words b f)
 
 -- ---- which chunks
@@ -71,17 +72,17 @@ pair-chunks sync a b i e f p =
 -- ---- which number
 
 -- the number of an answer says it again
-abbrev pub Coded : Pair → Type 0
+abbrev pub Coded : Option Words → Type 0
 Coded p = pair_said (pair_number p) ≡ p
 
 -- two such answers with one number are one
-pub coded-once : (p q : Pair) → Coded p → Coded q → pair_number p ≡ pair_number q → p ≡ q
+pub coded-once : (p q : Option Words) → Coded p → Coded q → pair_number p ≡ pair_number q → p ≡ q
 coded-once p q c d e = sym c ∙ ap pair_said e ∙ d
 
 -- so it is with what is true of two rows that do not part at word 0, which alone has the number of the same
-coded-true : (p : Pair) (xs ys : List ℕ) → (PartAt 0 xs ys → ⊥) → Says p xs ys → Coded p
-coded-true Pair.Same xs ys h s = refl
-coded-true (Pair.Differs n) xs ys h s = said-word n.0 (λ z. h (rw z at s))
+coded-true : (p : Option Words) (xs ys : List ℕ) → (PartAt 0 xs ys → ⊥) → Says p xs ys → Coded p
+coded-true None xs ys h s = refl
+coded-true (Some n) xs ys h s = said-word n.0 (λ z. h (rw z at s))
 
 -- and so with the answer of two listed chunks
 pub coded : (sync : ℕ) (a b : List ℕ) (e f : Entry) → Chunk sync a e → Chunk sync b f → Coded (answer_of a b e f)
@@ -89,8 +90,8 @@ coded sync a b e f c d =
     coded-true (answer_of a b e f) (chunk_words a e) (chunk_words b f) (not-at-first sync a b e f c d) (answer-true (chunk_words a e) (chunk_words b f))
 
 -- what holds of the answer of each pair of two lists holds of each of their answers
-each-answer : (P : Pair → Type 0) (a b : List ℕ) (es fs : List Entry) → ((i : ℕ) (e f : Entry) → PairAt i e f es fs → P (answer_of a b e f))
-    → (p : Pair) → AmongAnswers p (paired a b es fs) → P p
+each-answer : (P : Option Words → Type 0) (a b : List ℕ) (es fs : List Entry) → ((i : ℕ) (e f : Entry) → PairAt i e f es fs → P (answer_of a b e f))
+    → (p : Option Words) → AmongAnswers p (paired a b es fs) → P p
 unfolding paired
 each-answer P a b [] fs h p m = absurd m
 each-answer P a b (e ∷ es) [] h p m = absurd m
@@ -98,24 +99,24 @@ each-answer P a b (e ∷ es) (f ∷ fs) h p (inl z) = rw z (h 0 e f (refl, refl)
 each-answer P a b (e ∷ es) (f ∷ fs) h p (inr m) = each-answer P a b es fs (λ i d g q. h (suc i) d g q) p m
 
 -- each answer of the pairs of two recordings is one that its number says again
-pub every-coded : (sync : ℕ) (a b : List ℕ) (p : Pair) → AmongAnswers p (pairs_of sync a b) → Coded p
+pub every-coded : (sync : ℕ) (a b : List ℕ) (p : Option Words) → AmongAnswers p (pairs_of sync a b) → Coded p
 every-coded sync a b = each-answer Coded a b (reading sync a) (reading sync b)
     (λ i e f q. let t = pair-chunks sync a b i e f q in coded sync a b e f t.0 t.1)
 
 -- a row of such numbers says the row of answers again
-pub said-again : (ps : List Pair) → ((p : Pair) → AmongAnswers p ps → Coded p) → map pair_said (pair_numbers ps) ≡ ps
+pub said-again : (ps : List (Option Words)) → ((p : Option Words) → AmongAnswers p ps → Coded p) → map pair_said (pair_numbers ps) ≡ ps
 said-again [] h = refl
-said-again (p ∷ ps) h = ap₂ (λ (q : Pair) (l : List Pair). q ∷ l) (h p (inl refl)) (said-again ps (λ q m. h q (inr m)))
+said-again (p ∷ ps) h = ap₂ (λ (q : Option Words) (l : List (Option Words)). q ∷ l) (h p (inl refl)) (said-again ps (λ q m. h q (inr m)))
 
 -- ---- the same recording, and the other order
 
 -- a list and itself: every answer is the same, and every number 0
-pub paired-itself : (a : List ℕ) (es : List Entry) → paired a a es es ≡ replicate (length es) Pair.Same
+pub paired-itself : (a : List ℕ) (es : List Entry) → paired a a es es ≡ replicate (length es) None
 unfolding paired
 paired-itself a [] = refl
-paired-itself a (e ∷ es) = ap₂ (λ (p : Pair) (l : List Pair). p ∷ l) ((answered Pair.Same (chunk_words a e) (chunk_words a e)).1 refl) (paired-itself a es)
+paired-itself a (e ∷ es) = ap₂ (λ (p : Option Words) (l : List (Option Words)). p ∷ l) ((answered None (chunk_words a e) (chunk_words a e)).1 refl) (paired-itself a es)
 
-pub numbers-same : (n : ℕ) → pair_numbers (replicate n Pair.Same) ≡ replicate n 0
+pub numbers-same : (n : ℕ) → pair_numbers (replicate n None) ≡ replicate n 0
 numbers-same zero = refl
 numbers-same (suc n) = ap (λ (l : List ℕ). 0 ∷ l) (numbers-same n)
 
@@ -126,4 +127,4 @@ paired-exchanged a b [] [] = refl
 paired-exchanged a b [] (f ∷ fs) = refl
 paired-exchanged a b (e ∷ es) [] = refl
 paired-exchanged a b (e ∷ es) (f ∷ fs) =
-    ap₂ (λ (p : Pair) (l : List Pair). p ∷ l) (words-exchanged (chunk_words a e) (chunk_words b f)) (paired-exchanged a b es fs)
+    ap₂ (λ (p : Option Words) (l : List (Option Words)). p ∷ l) (words-exchanged (chunk_words a e) (chunk_words b f)) (paired-exchanged a b es fs)

@@ -1,4 +1,5 @@
 -- What is answered of two rows of words is true of them (`answer-true`), and of two rows only one answer is true (`one_answer`): the laws of words follow.
+use Rattle.std.proofs.Common.{Option, None, Some}
 use mathlib.Core.Path.{◌≡◌, refl, sym, ap, subst, ◌∙◌}
 use mathlib.Core.Bool.{true, false}
 use mathlib.Core.List.{List, [], ◌∷◌}
@@ -13,7 +14,7 @@ use lib.Dec.{eqb}
 use borrow.Author.Tests.{eqb-true, eqb-false}
 use Rattle.base.proofs.Booleans.{by-test}
 use Rattle.chunk_laws.specs.Ends.{Exactly}
-use Rattle.chunk_compare.specs.declared.Pair.{Pair}
+use Rattle.base.specs.declared.Words.{Words}
 use Rattle.chunk_compare.specs.Pairs.{differs, further, first_difference, pair_case, pair_values}
 use Rattle.chunk_compare.proofs.Difference.{first-words}
 use Rattle.reel.proofs.Same.{same_true, same_refl}
@@ -22,9 +23,9 @@ use Rattle.chunk_compare_laws.specs.Words.{PartAt, IsSame, IsWord, WordsAreTrue,
 -- ---- what an answer says of two rows
 
 -- the same: they are equal; word n: they part there
-abbrev pub Says : Pair → List ℕ → List ℕ → Type 0
-Says Pair.Same xs ys = xs ≡ ys
-Says (Pair.Differs n) xs ys = PartAt n.0 xs ys
+abbrev pub Says : Option Words → List ℕ → List ℕ → Type 0
+Says None xs ys = xs ≡ ys
+Says (Some n) xs ys = PartAt n.0 xs ys
 
 -- of two rows that begin with the same word, what is said of the rest
 part-later : (n x : ℕ) (xs ys : List ℕ) → PartAt n xs ys → PartAt (suc n) (x ∷ xs) (x ∷ ys)
@@ -32,9 +33,9 @@ part-later n x xs ys (agree, inl (a, b, d)) = (ap (λ (l : List ℕ). x ∷ l) a
 part-later n x xs ys (agree, inr (inl (e, l))) = (ap (λ (l : List ℕ). x ∷ l) agree, inr (inl (ap suc e, omega arith)))
 part-later n x xs ys (agree, inr (inr (e, l))) = (ap (λ (l : List ℕ). x ∷ l) agree, inr (inr (ap suc e, omega arith)))
 
-says-later : (p : Pair) (x : ℕ) (xs ys : List ℕ) → Says p xs ys → Says (further 1 p) (x ∷ xs) (x ∷ ys)
-says-later Pair.Same x xs ys s = ap (λ (l : List ℕ). x ∷ l) s
-says-later (Pair.Differs n) x xs ys s = rw one-add (part-later n.0 x xs ys s)
+says-later : (p : Option Words) (x : ℕ) (xs ys : List ℕ) → Says p xs ys → Says (further 1 p) (x ∷ xs) (x ∷ ys)
+says-later None x xs ys s = ap (λ (l : List ℕ). x ∷ l) s
+says-later (Some n) x xs ys s = rw one-add (part-later n.0 x xs ys s)
 
 -- the answer is true
 pub answer-true : (xs ys : List ℕ) → Says (first_difference xs ys) xs ys
@@ -68,33 +69,33 @@ one_place n m xs ys p q =
 equal-whole : (n : ℕ) (xs ys : List ℕ) → xs ≡ ys → PartAt n xs ys → ⊥
 equal-whole n xs ys e p = beyond n (suc n) xs ys (omega arith) (ap (take (suc n)) e) p
 
-pub one_answer : (p q : Pair) (xs ys : List ℕ) → Says p xs ys → Says q xs ys → p ≡ q
-one_answer Pair.Same Pair.Same xs ys s t = refl
-one_answer Pair.Same (Pair.Differs n) xs ys s t = absurd (equal-whole n.0 xs ys s t)
-one_answer (Pair.Differs n) Pair.Same xs ys s t = absurd (equal-whole n.0 xs ys t s)
-one_answer (Pair.Differs n) (Pair.Differs m) xs ys s t = ap differs (one_place n.0 m.0 xs ys s t)
+pub one_answer : (p q : Option Words) (xs ys : List ℕ) → Says p xs ys → Says q xs ys → p ≡ q
+one_answer None None xs ys s t = refl
+one_answer None (Some n) xs ys s t = absurd (equal-whole n.0 xs ys s t)
+one_answer (Some n) None xs ys s t = absurd (equal-whole n.0 xs ys t s)
+one_answer (Some n) (Some m) xs ys s t = ap differs (one_place n.0 m.0 xs ys s t)
 
 -- so an answer is given exactly where it is true
-pub answered : (p : Pair) (xs ys : List ℕ) → Exactly (first_difference xs ys ≡ p) (Says p xs ys)
-answered p xs ys = (λ e. subst (λ (q : Pair). Says q xs ys) e (answer-true xs ys), λ s. one_answer (first_difference xs ys) p xs ys (answer-true xs ys) s)
+pub answered : (p : Option Words) (xs ys : List ℕ) → Exactly (first_difference xs ys ≡ p) (Says p xs ys)
+answered p xs ys = (λ e. subst (λ (q : Option Words). Says q xs ys) e (answer-true xs ys), λ s. one_answer (first_difference xs ys) p xs ys (answer-true xs ys) s)
 
 -- ---- an answer by its number and values
 
-case_same : (p : Pair) → Exactly (IsSame p) (p ≡ Pair.Same)
-case_same Pair.Same = (λ s. refl, λ e. (refl, refl))
-case_same (Pair.Differs n) = (λ s. absurd (omega (arith, s.0)), λ e. (ap pair_case e, ap pair_values e))
+case_same : (p : Option Words) → Exactly (IsSame p) (p ≡ None)
+case_same None = (λ s. refl, λ e. (refl, refl))
+case_same (Some n) = (λ s. absurd (omega (arith, s.0)), λ e. (ap pair_case e, ap pair_values e))
 
-case-word : (n : ℕ) (p : Pair) → Exactly (IsWord n p) (p ≡ differs n)
-case-word n Pair.Same = (λ s. absurd (omega (arith, s.0)), λ e. (ap pair_case e, ap pair_values e))
-case-word n (Pair.Differs m) = (λ s. ap differs (ap (λ (l : List ℕ). get_or l 0 0) s.1), λ e. (ap pair_case e, ap pair_values e))
+case-word : (n : ℕ) (p : Option Words) → Exactly (IsWord n p) (p ≡ differs n)
+case-word n None = (λ s. absurd (omega (arith, s.0)), λ e. (ap pair_case e, ap pair_values e))
+case-word n (Some m) = (λ s. ap differs (ap (λ (l : List ℕ). get_or l 0 0) s.1), λ e. (ap pair_case e, ap pair_values e))
 
 pub words-are-true : WordsAreTrue
 words-are-true xs ys =
-    let p : Pair = first_difference xs ys in
+    let p : Option Words = first_difference xs ys in
     record {
-      same = answered Pair.Same xs ys;
+      same = answered None xs ys;
       parts = λ n. answered (differs n) xs ys;
-      same_by_number = (λ s. (answered Pair.Same xs ys).0 ((case_same p).0 s), λ e. (case_same p).1 ((answered Pair.Same xs ys).1 e));
+      same_by_number = (λ s. (answered None xs ys).0 ((case_same p).0 s), λ e. (case_same p).1 ((answered None xs ys).1 e));
       parts_by_number = λ n. (λ s. (answered (differs n) xs ys).0 ((case-word n p).0 s), λ e. (case-word n p).1 ((answered (differs n) xs ys).1 e));
     }
 
@@ -105,9 +106,9 @@ part-exchanged n xs ys (agree, inl (a, b, d)) = (sym agree, inl (b, a, λ e. d (
 part-exchanged n xs ys (agree, inr (inl e)) = (sym agree, inr (inr e))
 part-exchanged n xs ys (agree, inr (inr e)) = (sym agree, inr (inl e))
 
-says-exchanged : (p : Pair) (xs ys : List ℕ) → Says p xs ys → Says p ys xs
-says-exchanged Pair.Same xs ys s = sym s
-says-exchanged (Pair.Differs n) xs ys s = part-exchanged n.0 xs ys s
+says-exchanged : (p : Option Words) (xs ys : List ℕ) → Says p xs ys → Says p ys xs
+says-exchanged None xs ys s = sym s
+says-exchanged (Some n) xs ys s = part-exchanged n.0 xs ys s
 
 pub words-exchanged : WordsExchanged
 words-exchanged xs ys = (answered (first_difference xs ys) ys xs).1 (says-exchanged (first_difference xs ys) xs ys (answer-true xs ys))
@@ -116,6 +117,6 @@ words-exchanged xs ys = (answered (first_difference xs ys) ys xs).1 (says-exchan
 
 pub same-words-are-same : SameWordsAreSame
 same-words-are-same xs ys = (
-  λ e. (answered Pair.Same xs ys).1 (same_true xs ys e),
-  λ e. rw (← (answered Pair.Same xs ys).0 e) (same_refl xs),
+  λ e. (answered None xs ys).1 (same_true xs ys e),
+  λ e. rw (← (answered None xs ys).0 e) (same_refl xs),
 )

@@ -1,8 +1,7 @@
 -- FORMAT, "Comparing recordings": a recording compared with itself, two in the other order, and how many chunks are in pairs.
-use Rattle.std.specs.Prelude.{ℕ, ◌+◌, ◌≤◌, ◌≡◌, List, map, ◌⊎◌, length, replicate}
+use Rattle.std.specs.Prelude.{ℕ, ◌+◌, ◌≤◌, ◌≡◌, List, map, ◌⊎◌, length, replicate, None}
 use Rattle.chunk.specs.Reading.{reading}
 use Rattle.chunk_reading.specs.Counting.{survey_reply}
-use Rattle.chunk_compare.specs.declared.Pair.{Pair}
 use Rattle.chunk_compare.specs.declared.Compared.{Compared}
 use Rattle.chunk_compare.specs.Pairs.{pair_said}
 use Rattle.chunk_compare.specs.Compare.{compared, compare_reply, compare_room}
@@ -14,7 +13,7 @@ use Rattle.chunk_compare_laws.specs.Entries.{Accepted, told}
 pub record Itself (sync : ℕ) (a list : List ℕ) : Type 0 where
   pub reply : compare_reply sync a a (length list) ≡ compared 0 (length (reading sync a)) 0 0
   pub entries : told sync a a list ≡ replicate (length (reading sync a)) 0
-  pub says : map pair_said (told sync a a list) ≡ replicate (length (reading sync a)) Pair.Same
+  pub says : map pair_said (told sync a a list) ≡ replicate (length (reading sync a)) None
 
 abbrev pub ItselfIsSame : Type 0
 ItselfIsSame = (sync : ℕ) (a list : List ℕ) → Accepted sync a a list → Itself sync a list

@@ -1,9 +1,9 @@
 -- FORMAT, "Comparing recordings": what the entries of the list tell after a comparison that is accepted.
-use Rattle.std.specs.Prelude.{ℕ, zero, suc, ◌≤◌, ◌<◌, ◌≡◌, List, [], ◌∷◌, ◌++◌, map, ◌⊎◌, length, get_or, take}
+use Rattle.std.specs.Prelude.{ℕ, zero, suc, ◌≤◌, ◌<◌, ◌≡◌, List, [], ◌∷◌, ◌++◌, map, ◌⊎◌, length, get_or, take, Option}
 use Rattle.chunk.specs.declared.Entry.{Entry}
 use Rattle.chunk.specs.Reading.{reading}
 use Rattle.chunk_laws.specs.Ends.{Exactly}
-use Rattle.chunk_compare.specs.declared.Pair.{Pair}
+use Rattle.base.specs.declared.Words.{Words}
 use Rattle.chunk_compare.specs.Pairs.{chunk_words, pairs_of, pair_number, pair_said}
 use Rattle.chunk_compare.specs.Compare.{compare_reply, compare_room}
 use Rattle.chunk_compare_laws.specs.Words.{PartAt}
@@ -80,7 +80,7 @@ NeitherIsPrefix =
 -- ---- one number for each answer
 
 -- p is one of these answers
-abbrev pub AmongAnswers : Pair → List Pair → Type 0
+abbrev pub AmongAnswers : Option Words → List (Option Words) → Type 0
 AmongAnswers p [] = ⊥
 AmongAnswers p (q ∷ ps) = (p ≡ q) ⊎ AmongAnswers p ps
 
@@ -91,4 +91,4 @@ EntriesSayAnswers = (sync : ℕ) (a b list : List ℕ) → Accepted sync a b lis
 -- No two different answers of the pairs have the same number.
 abbrev pub NumbersTellAnswers : Type 0
 NumbersTellAnswers =
-    (sync : ℕ) (a b : List ℕ) (p q : Pair) → AmongAnswers p (pairs_of sync a b) → AmongAnswers q (pairs_of sync a b) → pair_number p ≡ pair_number q → p ≡ q
+    (sync : ℕ) (a b : List ℕ) (p q : Option Words) → AmongAnswers p (pairs_of sync a b) → AmongAnswers q (pairs_of sync a b) → pair_number p ≡ pair_number q → p ≡ q

@@ -6,16 +6,18 @@ use mathlib.Core.List.{List, [], ◌∷◌}
 use Prim.Native.Nat.{ℕ, suc, ◌+◌, ◌≤◌, ◌<◌}
 use native.Mathlib.Omega.{arith}
 use native.Mathlib.Numerals.{add-one}
+use Rattle.std.specs.Prelude.{Option, Some, None}
 use native.Mathlib.Decide.{dec_lt}
 use lib.ListN.{length, get_or, drop, length-drop}
 use lib.Seq.{get_or-drop, drop-drop}
 use lib.Dec.{eqb}
 use borrow.Author.Tests.{eqb-true, eq-eqb}
 use Rattle.base.proofs.Booleans.{and_left, and_right, and_both, or_right}
-use Rattle.chunk.specs.declared.Found.{Found}
+use Rattle.base.specs.declared.Words.{Words}
+use Rattle.chunk.specs.declared.Entry.{Entry}
 use Rattle.chunk.specs.Header.{size, span, legal, headed, confirmed}
 use Rattle.chunk.specs.Reading.{next_from}
-use Rattle.chunk.proofs.Headers.{headed-by-words, headed-inside, confirmed-by-end}
+use Rattle.chunk.proofs.Headers.{headed_by_words, headed-inside, confirmed-by-end}
 use Rattle.chunk.proofs.Steps.{stepped, ended}
 use Rattle.chunk_laws.specs.Answers.{HeaderAt, FollowedAt, EndingAt, checked, CheckTells, FindsFirst, SearchTells}
 use Rattle.chunk_laws.specs.Ends.{ThreeWays}
@@ -26,13 +28,13 @@ use Rattle.chunk_laws.proofs.Ends.{checked-three-ways}
 module _ (sync : ℕ) (ws : List ℕ) where
   header-there : (p : ℕ) → HeaderAt sync ws p → headed sync (drop p ws) ≡ true
   header-there p h =
-      headed-by-words sync ws p (omega (arith, h.0))
+      headed_by_words sync ws p (omega (arith, h.0))
       ∙ rw (add-one p) (and_both (eqb (get_or ws p 0) sync) _ (eq-eqb (get_or ws p 0) sync h.1) h.2)
 
   header-only : (p : ℕ) → headed sync (drop p ws) ≡ true → HeaderAt sync ws p
   header-only p e =
       let inside : p + 1 < length ws = headed-inside sync ws p e in
-      let two : eqb (get_or ws p 0) sync && legal (get_or ws (suc p) 0) ≡ true = rw (← add-one p) (sym (headed-by-words sync ws p inside) ∙ e) in
+      let two : eqb (get_or ws p 0) sync && legal (get_or ws (suc p) 0) ≡ true = rw (← add-one p) (sym (headed_by_words sync ws p inside) ∙ e) in
       (omega arith, eqb-true (get_or ws p 0) sync (and_left (eqb (get_or ws p 0) sync) _ two), and_right (eqb (get_or ws p 0) sync) _ two)
 
   module _ (p : ℕ) where
@@ -97,8 +99,8 @@ check-tells sync ws p =
 pub search-tells : SearchTells
 search-tells sync ws p = by_answer (next_from sync ws p) refl
   where
-    by_answer : (f : Found) → next_from sync ws p ≡ f → FindsFirst sync ws p
-    by_answer Found.End e = let l = (ended sync ws p e).lists in record { number = rw (e, l); values = rw (e, l) }
-    by_answer (Found.Chunk c next) e =
+    by_answer : (f : Option (Entry × Words)) → next_from sync ws p ≡ f → FindsFirst sync ws p
+    by_answer None e = let l = (ended sync ws p e).lists in record { number = rw (e, l); values = rw (e, l) }
+    by_answer (Some (c, next)) e =
         let s = stepped sync ws p c next e in
         record { number = rw (e, s.lists); values = rw (e, s.lists) (ap (λ (n : ℕ). c.position.0 ∷ c.header ∷ cond c.end 1 0 ∷ n ∷ []) s.end) }

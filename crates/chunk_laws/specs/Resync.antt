@@ -1,7 +1,8 @@
 -- Demand 3 for lists: after any words, a clean stretch up to the end of the recording is read as it is read alone.
-use Rattle.std.specs.Prelude.{ℕ, ◌+◌, ◌≤◌, ◌≡◌, Bool, true, false, List, [], ◌∷◌, ◌++◌, map, length, leb}
+use Rattle.std.specs.Prelude.{ℕ, ◌+◌, ◌≤◌, ◌≡◌, Bool, true, false, List, [], ◌∷◌, ◌++◌, length, leb}
 use Rattle.chunk.specs.declared.Entry.{Entry}
 use Rattle.chunk.specs.Reading.{entry, reading}
+pub use Rattle.chunk.specs.Moved.{moved_entry, moved}
 use Rattle.chunk_laws.specs.Stretch.{Laid, words, offset, empty, entries}
 use Rattle.chunk_laws.specs.Listed.{Among}
 
@@ -9,14 +10,6 @@ use Rattle.chunk_laws.specs.Listed.{Among}
 unfoldable pub from : ℕ → List Entry → List Entry
 from p [] = []
 from p (e ∷ es) = elim (leb p e.position.0) [ true ↦ e ∷ es | false ↦ from p es ]
-
--- an entry with its position moved on by n words: header word and mark stay
-abbrev pub moved_entry : ℕ → Entry → Entry
-moved_entry n e = entry (n + e.position.0) e.header e.end
-
--- the list with every entry moved so
-abbrev pub moved : ℕ → List Entry → List Entry
-moved n es = map (moved_entry n) es
 
 -- The stretch `cs` after the words `a` is read as it is read alone.
 pub record ReadAsAlone (sync : ℕ) (a : List ℕ) (cs : List Laid) : Type 0 where

@@ -1,9 +1,8 @@
 -- For the contracts of the functions that are not public: the runs from a place on, where a run is that has one more chunk, before the place.
-use Rattle.std.specs.Prelude.{ℕ, ◌+◌, ◌<◌, ◌≤◌, ◌≡◌, Bool, false, cond, ◌&&◌, List, [], ◌∷◌, length, drop, eqb}
+use Rattle.std.specs.Prelude.{ℕ, Option, None, Some, ◌+◌, ◌<◌, ◌≤◌, ◌≡◌, Bool, false, cond, ◌&&◌, List, [], ◌∷◌, length, drop, eqb}
 use Rattle.base.specs.Limit.{recording_limit}
 use Rattle.base.specs.declared.Words.{Words}
 use Rattle.chunk.specs.declared.Entry.{Entry}
-use Rattle.chunk.specs.declared.Found.{Found}
 use Rattle.chunk.specs.Header.{kind}
 use Rattle.chunk.specs.Reading.{listed}
 use Rattle.chunk_outline.specs.Runs.{runs, count_kind}
@@ -32,11 +31,11 @@ unfoldable pub runs_on : ℕ → ℕ → ℕ → List ℕ → ℕ → ℕ
 runs_on k own sync ws end = runs_with k own end (listed sync end 0 (drop end ws))
 
 -- and from a run on that begins with the chunk that was found
-abbrev pub runs_of : ℕ → ℕ → List ℕ → Found → ℕ
-runs_of k sync ws Found.End = 0
-runs_of k sync ws (Found.Chunk e next) = runs_on k (kind e.header) sync ws next.0
+abbrev pub runs_of : ℕ → ℕ → List ℕ → Option (Entry × Words) → ℕ
+runs_of k sync ws None = 0
+runs_of k sync ws (Some (e, next)) = runs_on k (kind e.header) sync ws next.0
 
 -- A run of the kind `own` is at the place, and `found` is the chunk that begins the next run: it ends further on, and no run stands between.
-pub record RunOn (sync : ℕ) (ws : List ℕ) (own end : ℕ) (found : Found) : Type 0 where
+pub record RunOn (sync : ℕ) (ws : List ℕ) (own end : ℕ) (found : Option (Entry × Words)) : Type 0 where
   pub counts : (k : ℕ) → runs_on k own sync ws end ≡ one k own + runs_of k sync ws found
-  pub ahead : (e : Entry) (next : Words) → found ≡ Found.Chunk e next → (end < next.0) × (next.0 ≤ length ws)
+  pub ahead : (e : Entry) (next : Words) → found ≡ Some (e, next) → (end < next.0) × (next.0 ≤ length ws)

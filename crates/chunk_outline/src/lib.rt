@@ -7,9 +7,9 @@ ghost use Rattle.std.specs.Prelude.{◌≡◌};
 ghost use Rattle.chunk_outline.specs.Outline.{refused, outline_reply};
 
 use base::{Words, limit, refusal};
-use chunk::{Found, header, search};
+use chunk::{header, search};
 
-// The reply: the number of runs of each kind.
+// The reply: the number of runs of each kind. A refusal has its number and zeros: `Demand1` says so of this answer, so it is no Result.
 #[derive(Clone, Copy)]
 pub struct Runs {
     pub refusal: u8,
@@ -36,8 +36,7 @@ pub fn outline(recording: &[u16], sync: u16) -> Runs
     }
     let mut image = 0;
     let mut health = 0;
-    let found = search::next(recording, sync, Words(0));
-    if let Found::Chunk(first, next) = found {
+    if let Some((first, next)) = search::next(recording, sync, Words(0)) {
         if header::kind_of(first.header) == run::IMAGE {
             run::image_run(&recording, sync, next.0, &mut image, &mut health);
         } else {
@@ -46,7 +45,7 @@ pub fn outline(recording: &[u16], sync: u16) -> Runs
     }
     Runs {
         refusal: 0,
-        image: image,
-        health: health,
+        image,
+        health,
     }
 }

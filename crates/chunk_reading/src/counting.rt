@@ -1,10 +1,24 @@
 // The chunks of a recording and the words between them, counted.
 ghost use Rattle.std.specs.Prelude.{◌≡◌};
-ghost use Rattle.chunk_reading.specs.Counting.{refused, count_reply, survey_reply};
+ghost use Rattle.chunk_reading.specs.Counting.{surveyed, refused, count_reply, survey_reply};
 
 use crate::{Counts, Survey};
 use base::{Words, limit, refusal};
-use chunk::{Found, search};
+use chunk::search;
+
+// What is counted, as a survey that refuses nothing.
+impl From<Counts> for Survey {
+    ghost from_gives = { λ counts survey. survey ≡ surveyed 0 counts.chunks counts.skipped.0 counts.end };
+
+    fn from(counts: Counts) -> Survey {
+        Survey {
+            refusal: 0,
+            chunks: counts.chunks,
+            skipped: counts.skipped,
+            end: counts.end,
+        }
+    }
+}
 
 pub fn refused(number: u8) -> Survey
     ensures { result ≡ refused number }
@@ -22,41 +36,28 @@ pub fn refused(number: u8) -> Survey
 pub fn count(words: &[u16], sync: u16) -> Counts
     ensures { result ≡ count_reply sync words.now }
 {
-    let mut chunks: usize = 0;
-    let mut listed: usize = 0;
+    let mut chunks = 0;
+    let mut listed = 0;
     let mut end = false;
-    let mut at: usize = 0;
-    loop {
-        let found = search::next(words, sync, Words(at));
-        let Found::Chunk(entry, next) = found else {
-            let skipped = words.len() - listed;
-            return Counts {
-                chunks: chunks,
-                skipped: Words(skipped),
-                end: end,
-            };
-        };
-        let begins = entry.position.0;
+    for (entry, past) in search::chunks(words, sync) {
         chunks += 1;
-        listed += next.0 - begins;
-        end = end | entry.end;
-        at = next.0;
+        listed += past.0 - entry.position.0;
+        end |= entry.end;
+    }
+    Counts {
+        chunks,
+        skipped: Words(words.len() - listed),
+        end,
     }
 }
 
 // The chunks and the skipped words of a recording, marked where a chunk ends with it.
+#[tactic(auto, unfolding(base::specs::Refusal::answer))]
 pub fn survey(recording: &[u16], sync: u16) -> Survey
     ensures { result ≡ survey_reply sync recording.now }
 {
     if limit::too_long(recording) {
         return refused(refusal::LENGTH);
     }
-    let counts = count(recording, sync);
-    let skipped = counts.skipped;
-    Survey {
-        refusal: 0,
-        chunks: counts.chunks,
-        skipped: skipped,
-        end: counts.end,
-    }
+    Survey::from(count(recording, sync))
 }

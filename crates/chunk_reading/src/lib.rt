@@ -14,7 +14,8 @@ pub struct Counts {
     pub end: bool,
 }
 
-// What a survey of a recording answers: the same, and the number of a refusal.
+// What a survey of a recording answers: the same, and the number of a refusal. A refusal has its number and zeros: `Demand1` says so of this answer, so it
+// is no Result.
 #[derive(Clone, Copy)]
 pub struct Survey {
     pub refusal: u8,
@@ -23,7 +24,8 @@ pub struct Survey {
     pub end: bool,
 }
 
-// What stands in the header of a listed chunk, and the mark that it ends with the recording.
+// What stands in the header of a listed chunk, and the mark that it ends with the recording. A refusal has its number and zeros: `Demand1` says so of this
+// answer, so it is no Result.
 #[derive(Clone, Copy)]
 pub struct Heading {
     pub refusal: u8,

@@ -6,31 +6,26 @@ ghost use Rattle.chunk_reading.specs.Place.{refused, at_causes, heading_of, at_r
 
 use crate::Heading;
 use base::{Words, limit, refusal};
-use chunk::{Found, header, search};
+use chunk::{header, search};
 
 // Whether a chunk is listed at a place: the reading is followed up to it.
 pub fn is_listed(words: &[u16], sync: u16, place: Words) -> bool
     ensures { result ≡ listed_at sync words.now place.0 }
 {
     let asked = place.0;
-    let mut at = 0;
-    loop {
-        let found = search::next(words, sync, Words(at));
-        let Found::Chunk(entry, next) = found else {
-            return false;
-        };
+    for (entry, past) in search::chunks(words, sync) {
         let begins = entry.position.0;
         if asked <= begins {
             return asked == begins;
         }
-        at = next.0;
-        if asked < at {
+        if asked < past.0 {
             return false;
         }
     }
+    false
 }
 
-// The refusal number for a place of a recording.
+// The refusal number for a place of a recording. It is the answer's (`Demand1`).
 fn judge(recording: &[u16], sync: u16, place: Words) -> u8
     ensures { result ≡ verdict (at_causes sync recording.now place.0) }
 {
@@ -65,11 +60,12 @@ fn heading_of(word: u16, end: bool) -> Heading
         kind: header::kind_of(word),
         camera: header::camera_of(word),
         size: header::size_of(word),
-        end: end,
+        end,
     }
 }
 
 // The chunk listed at a place, marked where the place past it is the recording's end.
+#[tactic(auto, using(crate::proofs::place::Answers::refused_at, crate::proofs::place::Answers::accepted_within, crate::proofs::place::Answers::accepted_at))]
 pub fn at(recording: &[u16], sync: u16, place: Words) -> Heading
     ensures { result ≡ at_reply sync recording.now place.0 }
 {
@@ -84,6 +80,7 @@ pub fn at(recording: &[u16], sync: u16, place: Words) -> Heading
 }
 
 // The payload of the chunk listed at a place, as a part of the recording; empty where `at` refuses.
+#[tactic(auto, using(crate::proofs::place::Answers::at_number, crate::proofs::place::Answers::refused_payload, crate::proofs::place::Answers::accepted_within, crate::proofs::place::Answers::accepted_size, crate::proofs::place::Answers::accepted_payload))]
 pub fn payload(recording: &[u16], sync: u16, place: Words) -> &[u16]
     ensures { result.now ≡ payload_reply sync recording.now place.0 }
 {

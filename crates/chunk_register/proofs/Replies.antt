@@ -35,17 +35,17 @@ module _ (sync : ℕ) (ws : List ℕ) where
 
   module _ (entries : ℕ) where
     -- the survey of a recording that is too long counts no chunks
-    pub too-few-refused : entries < (survey_reply sync ws).chunks → refused no_room ≡ list_reply sync ws entries
+    pub too_few_refused : entries < (survey_reply sync ws).chunks → refused no_room ≡ list_reply sync ws entries
     unfolding list_reply answer
-    too-few-refused h = by_length (too_long ws) refl
+    too_few_refused h = by_length (too_long ws) refl
       where
         by_length : (b : Bool) → too_long ws ≡ b → refused no_room ≡ list_reply sync ws entries
         by_length true e = let z : entries < 0 = rw e at h in absurd (omega arith)
         by_length false e = rw (e, lt-ltb entries (length (reading sync ws)) (rw e at h))
 
-    pub enough-surveyed : (survey_reply sync ws).chunks ≤ entries → survey_reply sync ws ≡ list_reply sync ws entries
+    pub enough_surveyed : (survey_reply sync ws).chunks ≤ entries → survey_reply sync ws ≡ list_reply sync ws entries
     unfolding list_reply answer
-    enough-surveyed h = by_length (too_long ws) refl
+    enough_surveyed h = by_length (too_long ws) refl
       where
         by_length : (b : Bool) → too_long ws ≡ b → survey_reply sync ws ≡ list_reply sync ws entries
         by_length true e = rw e

@@ -4,7 +4,7 @@ ghost use Rattle.chunk_register.specs.Register.{list_reply};
 ghost use Rattle.chunk_register.specs.Finder.{step_from};
 
 use base::{Words, refusal};
-use chunk::{Entry, Found, search};
+use chunk::{Entry, search};
 use chunk_reading::{Survey, counting};
 
 // A chunk's entry, and the place past the chunk.
@@ -15,6 +15,7 @@ pub struct Step {
 }
 
 // The reply for a register of so many entries. A recording that is too long has no chunks to make room for.
+#[tactic(auto, using(crate::proofs::Replies::too_few_refused, crate::proofs::Replies::enough_surveyed))]
 pub fn look(recording: &[u16], sync: u16, entries: usize) -> Survey
     ensures { result ≡ list_reply sync recording.now entries }
 {
@@ -25,12 +26,12 @@ pub fn look(recording: &[u16], sync: u16, entries: usize) -> Survey
     survey
 }
 
-// The next chunk at or after a place; zeros and no mark where none is left.
+// The next chunk at or after a place; zeros and no mark where none is left. docs/PROMISES.md names a finder of its own, over which `list` is thin.
+#[tactic(auto, unfolding(crate::specs::Finder::step_from, crate::specs::Finder::step_to))]
 pub fn step_from(recording: &[u16], sync: u16, at: Words) -> Step
     ensures { result ≡ step_from sync recording.now at.0 }
 {
-    let found = search::next(recording, sync, at);
-    let Found::Chunk(entry, next) = found else {
+    let Some((entry, end)) = search::next(recording, sync, at) else {
         return Step {
             entry: Entry {
                 position: Words(0),
@@ -40,8 +41,5 @@ pub fn step_from(recording: &[u16], sync: u16, at: Words) -> Step
             end: Words(0),
         };
     };
-    Step {
-        entry: entry,
-        end: next,
-    }
+    Step { entry, end }
 }

@@ -31,18 +31,18 @@ module _ (sync k c : ℕ) (p d : List ℕ) (r : Written) (e : r ≡ write_reply 
   number : r.refusal ≡ verdict (write_causes k c (length p) (length d))
   number = ap (λ (x : Written). x.refusal) e ∙ settled-refusal (verdict (write_causes k c (length p) (length d))) (length p + 2)
 
-  pub refused-untouched : (r.refusal ≡ 0 → ⊥) → d ≡ write_room sync k c p d
+  pub refused_untouched : (r.refusal ≡ 0 → ⊥) → d ≡ write_room sync k c p d
   unfolding write_room
-  refused-untouched h = sym (answer-no _ _ _ (λ z. h (number ∙ z)))
+  refused_untouched h = sym (answer-no _ _ _ (λ z. h (number ∙ z)))
 
   module _ (z : r.refusal ≡ 0) where
-    pub accepted-bounds : (k ≤ 1) × (c ≤ 3) × (length p ≤ 8190)
-    accepted-bounds =
+    pub accepted_bounds : (k ≤ 1) × (c ≤ 3) × (length p ≤ 8190)
+    accepted_bounds =
         let s = spared (write_causes k c (length p) (length d)) refl (sym number ∙ z) in
         let b = writable-bounds k c (not-false (writable k c) s.0) in
         let l = legal-size k (length p) (not-false (legal_size k (length p)) s.1.0) in
         (b.0, b.1, omega (arith, l.1))
 
-    pub accepted-stored : (h : ℕ) → h ≡ header_word k c (length p) → (b : List ℕ) → b ≡ put (sync ∷ h ∷ p) 0 d → b ≡ write_room sync k c p d
+    pub accepted_stored : (h : ℕ) → h ≡ header_word k c (length p) → (b : List ℕ) → b ≡ put (sync ∷ h ∷ p) 0 d → b ≡ write_room sync k c p d
     unfolding write_room
-    accepted-stored h eh b eb = eb ∙ ap (λ (w : ℕ). put (sync ∷ w ∷ p) 0 d) eh ∙ sym (answer-yes _ _ _ (sym number ∙ z))
+    accepted_stored h eh b eb = eb ∙ ap (λ (w : ℕ). put (sync ∷ w ∷ p) 0 d) eh ∙ sym (answer-yes _ _ _ (sym number ∙ z))

@@ -1,22 +1,18 @@
 -- What a verdict of 0 on the causes that stand first says of the total; and the judgement on the causes that stand last.
-use mathlib.Core.Path.{◌≡◌, refl, ap, ◌∙◌}
-use mathlib.Core.Bool.{Bool, true, false, cond, not, ◌&&◌, and-eq-true_iff}
+use mathlib.Core.Path.{◌≡◌, refl, ap}
+use mathlib.Core.Bool.{Bool, true, false, cond, ◌&&◌, and-eq-true_iff}
 use mathlib.Core.List.{List}
 use Prim.Native.Nat.{ℕ, ◌≤◌}
 use native.Mathlib.Omega.{arith}
 use lib.Dec.{leb, eqb}
 use borrow.Author.Tests.{leb-true, not-false}
-use Rattle.base.specs.Refusal.{verdict, wrong_argument, wrong_length}
+use Rattle.base.specs.Refusal.{verdict, wrong_argument}
 use Rattle.base.proofs.Refused.{spared}
 use Rattle.command_catalogue.specs.Rules.{asked_wrong, judge_causes}
 use Rattle.command.specs.declared.Fields.{Fields}
 use Rattle.command.specs.Asking.{most_bytes, first_causes, last_causes}
 
 -- ---- what the first causes leave
-
-pub first-by-causes : (a : Bool) (c n : ℕ) {m v w : ℕ} → m ≡ most_bytes c → w ≡ cond (not (leb 14 n && leb n m)) wrong_length 0 → v ≡ cond a wrong_argument w
-    → v ≡ verdict (first_causes a c n)
-first-by-causes a c n em ew ev = ev ∙ ap (cond a wrong_argument) (ew ∙ ap (λ (x : ℕ). cond (not (leb 14 n && leb n x)) wrong_length 0) em)
 
 -- what is not refused at first: the argument is right, and the total is within its bounds
 module _ (a : Bool) (c n : ℕ) (h : verdict (first_causes a c n) ≡ 0) where

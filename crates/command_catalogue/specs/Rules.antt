@@ -1,5 +1,6 @@
 -- FORMAT, "Commands": which catalogues and modes there are, and which fields and further bytes a command may have. Reader and writer go by these alike.
-use Rattle.std.specs.Prelude.{ℕ, Bool, true, cond, not, ◌&&◌, ◌||◌, List, [], ◌∷◌, length, drop, leb, eqb}
+use Rattle.std.specs.Prelude.{ℕ, Bool, cond, not, ◌&&◌, ◌||◌, List, [], ◌∷◌, length, drop, leb, eqb}
+use Rattle.std.specs.List.{list_all}
 use Rattle.base.specs.Refusal.{Causes, wrong_argument, wrong_type, wrong_field, wrong_further, wrong_mode}
 use Rattle.command_catalogue.specs.declared.table.Permits.{Permits}
 use Rattle.command_catalogue.specs.Table.{dcixs, c1xs, operating, patch, any_of, permits}
@@ -13,8 +14,7 @@ abbrev pub patch_lengths : ℕ → List ℕ
 patch_lengths catalogue = cond (eqb catalogue dcixs) (8 ∷ 16 ∷ 32 ∷ 64 ∷ 128 ∷ 196 ∷ []) (8 ∷ 16 ∷ 32 ∷ 38 ∷ [])
 
 abbrev pub zeros : List ℕ → Bool
-zeros [] = true
-zeros (x ∷ xs) = eqb x 0 && zeros xs
+zeros xs = list_all (λ x. eqb x 0) xs
 
 -- Qualifier, address or data not permitted: the qualifier stands in the row, the fixed zeros are zeros, and a PATCH's actual
 -- length, its data field, goes from 1 to the number n of further bytes that came.

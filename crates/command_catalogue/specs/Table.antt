@@ -1,5 +1,6 @@
 -- FORMAT, "Commands": the table of the two catalogues, and what it says of a command.
-use Rattle.std.specs.Prelude.{ℕ, Bool, true, false, cond, not, ◌&&◌, ◌||◌, List, [], ◌∷◌, leb, eqb}
+use Rattle.std.specs.Prelude.{ℕ, Bool, true, false, cond, not, ◌&&◌, List, [], ◌∷◌, leb, eqb}
+use Rattle.std.specs.List.{list_any}
 use Rattle.command_catalogue.specs.declared.table.Permits.{Permits}
 
 -- ---- the words of the table
@@ -79,8 +80,7 @@ table =
 
 -- some element of the list passes the test
 abbrev pub any_of : {A : Type 0} → (A → Bool) → List A → Bool
-any_of test [] = false
-any_of test (x ∷ xs) = test x || any_of test xs
+any_of test xs = list_any test xs
 
 abbrev pub is_type : ℕ → ℕ → Listed → Bool
 is_type catalogue t (both k) = eqb t k

@@ -9,11 +9,9 @@ ghost use Rattle.command_catalogue.specs.Table.{any_of};
 ghost use Rattle.command_catalogue.specs.Rules.{asked_wrong, patch_lengths, zeros, fields_wrong, further_wrong, judge_causes};
 
 use crate::table::{Permits, look_up};
-use base::Bytes;
-use base::number::either;
 use base::refusal::{ARGUMENT, COMMAND_FIELD, COMMAND_TYPE, FURTHER_DATA, MODE, cause};
 
-// The catalogues and the modes, as the calls take them: catalogue 1 is D-CIXS, 2 is C1XS.
+// The catalogues and the modes, as the calls take them: catalogue 1 is D-CIXS, 2 is C1XS. Numbers and no enums, for `judge` refuses one that is none.
 pub const DCIXS: u8 = 1;
 
 pub const C1XS: u8 = 2;
@@ -31,40 +29,32 @@ const PATCH: u8 = 2;
 pub fn asked_wrong(catalogue: u8, mode: u8) -> bool
     ensures { result ≡ asked_wrong catalogue mode }
 {
-    !(((catalogue == DCIXS) | (catalogue == C1XS)) & (mode <= OPERATING))
+    !((catalogue == DCIXS || catalogue == C1XS) && mode <= OPERATING)
 }
 
-fn patch_length(catalogue: u8, further: Bytes) -> bool
-    ensures { result ≡ any_of (eqb further.0) (patch_lengths catalogue) }
+// Whether a PATCH may have so many further bytes.
+fn patch_length(catalogue: u8, n: usize) -> bool
+    ensures { result ≡ any_of (eqb n) (patch_lengths catalogue) }
 {
-    let n = further.0;
-    let shared = (n == 8) | (n == 16) | (n == 32);
-    either(
-        catalogue == DCIXS,
-        shared | (n == 64) | (n == 128) | (n == 196),
-        shared | (n == 38),
-    )
-}
-
-fn zeros_from(bytes: &[u8], from: Bytes) -> bool
-    ensures { result ≡ zeros (drop from.0 bytes.now) }
-{
-    let mut i = from.0;
-    while i < bytes.len() {
-        if bytes[i] != 0 {
-            return false;
-        }
-        i += 1;
+    if catalogue == DCIXS {
+        matches!(n, 8 | 16 | 32 | 64 | 128 | 196)
+    } else {
+        matches!(n, 8 | 16 | 32 | 38)
     }
-    true
 }
 
-fn fields_wrong(row: Permits, command_type: u8, address: u16, data: u16, further: Bytes) -> bool
-    ensures { result ≡ fields_wrong row command_type address «data» further.0 }
+fn zeros_from(bytes: &[u8], from: usize) -> bool
+    ensures { result ≡ zeros (drop from bytes.now) }
 {
-    let actual = Bytes(data as usize);
-    !(row.qualifier & (row.address | (address == 0)) & (row.data | (data == 0)))
-        | (command_type == PATCH) & !((1 <= actual.0) & (actual.0 <= further.0))
+    bytes.iter().skip(from).all(|byte| *byte == 0)
+}
+
+fn fields_wrong(row: Permits, command_type: u8, address: u16, data: u16, n: usize) -> bool
+    ensures { result ≡ fields_wrong row command_type address «data» n }
+{
+    let actual = usize::from(data);
+    !(row.qualifier && (row.address || address == 0) && (row.data || data == 0))
+        || command_type == PATCH && !(1 <= actual && actual <= n)
 }
 
 fn further_wrong(catalogue: u8, command_type: u8, data: u16, further: &[u8]) -> bool
@@ -72,13 +62,14 @@ fn further_wrong(catalogue: u8, command_type: u8, data: u16, further: &[u8]) -> 
 {
     let n = further.len();
     if command_type == PATCH {
-        let actual = Bytes(data as usize);
-        return !patch_length(catalogue, Bytes(n)) | !zeros_from(further, actual);
+        let actual = usize::from(data);
+        return !patch_length(catalogue, n) || !zeros_from(further, actual);
     }
-    !(n == 0)
+    n != 0
 }
 
-// The verdict on a command's type, qualifier, address, data and further bytes, in a catalogue and a mode.
+// The verdict on a command's type, qualifier, address, data and further bytes, in a catalogue and a mode. They come one by one: each function here goes by
+// others of them, and a struct of just these would be built at both calls from `command::Fields`, which has the sequence count too.
 pub fn judge(
     catalogue: u8,
     mode: u8,
@@ -91,7 +82,7 @@ pub fn judge(
     ensures { result ≡ verdict (judge_causes catalogue mode command_type qualifier address «data» further.now) }
 {
     let row = look_up(catalogue, mode, command_type, qualifier);
-    let field = fields_wrong(row, command_type, address, data, Bytes(further.len()));
+    let field = fields_wrong(row, command_type, address, data, further.len());
     let more = further_wrong(catalogue, command_type, data, further);
     let last = cause(MODE, !row.mode, 0);
     let others = cause(COMMAND_FIELD, field, cause(FURTHER_DATA, more, last));

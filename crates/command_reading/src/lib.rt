@@ -12,7 +12,7 @@ use command::{Fields, HEAD, ID, LEAST};
 use command_catalogue::{asked_wrong, judge};
 use space_packet::{crc_wrong, header_wrong};
 
-// The reader's reply: the fields and the number of further bytes.
+// The reader's reply: the fields and the number of further bytes. A refusal has its number and zeros: `Demand1` says so of this answer, so it is no Result.
 #[derive(Clone, Copy)]
 pub struct Command {
     pub refusal: u8,
@@ -21,6 +21,7 @@ pub struct Command {
 }
 
 // The reply where a verdict is found.
+#[tactic(auto, unfolding(crate::specs::Reading::given, base::specs::Refusal::answer))]
 fn give(verdict: u8, fields: Fields, further: Bytes) -> Command
     ensures { result ≡ given «verdict» fields further.0 }
 {
@@ -33,13 +34,7 @@ fn give(verdict: u8, fields: Fields, further: Bytes) -> Command
     }
     Command {
         refusal: verdict,
-        fields: Fields {
-            sequence: 0,
-            command_type: 0,
-            qualifier: 0,
-            address: 0,
-            data: 0,
-        },
+        fields: Fields::default(),
         further: Bytes(0),
     }
 }
@@ -68,6 +63,7 @@ fn inspect(catalogue: u8, mode: u8, fields: Fields, bytes: &[u8]) -> u8
 }
 
 // A command's fields, and how many further bytes it has.
+#[tactic(auto, using(crate::proofs::Replies::reader))]
 pub fn read(catalogue: u8, mode: u8, bytes: &[u8]) -> Command
     ensures { result ≡ read_reply catalogue mode bytes.now }
 {
@@ -82,6 +78,7 @@ pub fn read(catalogue: u8, mode: u8, bytes: &[u8]) -> Command
 }
 
 // The further bytes of a command, as a part of its bytes; none where `read` refuses, which has the number.
+#[tactic(auto, using(crate::proofs::Replies::further_bytes))]
 pub fn further(catalogue: u8, mode: u8, bytes: &[u8]) -> &[u8]
     ensures { result.now ≡ further_reply catalogue mode bytes.now }
 {

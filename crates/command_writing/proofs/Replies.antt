@@ -63,6 +63,8 @@ module _ (c m : ℕ) (f : Fields) (xs : List ℕ) (room : ℕ) where
       pub settled-by-room : w ≡ 0 → {u : ℕ} {r : Sent} → u ≡ cond (ltb room (14 + length xs)) no_room 0 → r ≡ settled u (14 + length xs) → r ≡ write_reply c m f xs room
       settled-by-room y eu is = reply-by-verdict (verdict-further (early ++ late) last refl (asked ∙ y) ∙ sym eu) is
 
+pub ruleset planned = (refused-at-first, refused-by-fields, settled-by-room)
+
 -- ---- the room
 
 module _ (c m : ℕ) (f : Fields) (xs room : List ℕ) {r : Sent} (e : r ≡ write_reply c m f xs (length room)) where
@@ -90,3 +92,5 @@ module _ (c m : ℕ) (f : Fields) (xs room : List ℕ) {r : Sent} (e : r ≡ wri
     pub stored : {h d : List ℕ} → h ≡ laid widths (head_of (14 + length xs) f) → d ≡ put (sealed (h ++ xs)) 0 room → d ≡ write_room c m f xs room
     unfolding write_room command_bytes
     stored eh is = is ∙ ap (λ (l : List ℕ). put (sealed (l ++ xs)) 0 room) eh ∙ sym (answer-yes _ _ _ (sym reply-number ∙ z))
+
+pub ruleset writer = (untouched, command-fits, stored)

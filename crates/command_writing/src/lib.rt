@@ -7,18 +7,19 @@ ghost use Rattle.space_packet.specs.Header.{sequence_counts};
 ghost use Rattle.command.specs.Layout.{least_bytes, widths, head_of};
 ghost use Rattle.command_writing.specs.Writing.{write_reply, write_room};
 
-use base::{Bytes, number, refusal};
+use base::{Bytes, refusal};
 use command::{Fields, HEAD, ID, LEAST};
 use command_catalogue::{asked_wrong, judge};
 use space_packet::{LENGTH_LESS, SEQUENCE_COUNTS, SEQUENCE_TOP, Sent, put_sealed, settle};
 
 // The reply, before anything is written.
+#[tactic(auto, using(crate::proofs::Replies::planned))]
 fn plan(catalogue: u8, mode: u8, fields: Fields, further: &[u8], room: Bytes) -> Sent
     ensures { result ≡ write_reply catalogue mode fields further.now room.0 }
 {
     let total = LEAST.0 + further.len();
     let count = fields.sequence < SEQUENCE_COUNTS;
-    let asked = asked_wrong(catalogue, mode) | !count;
+    let asked = asked_wrong(catalogue, mode) || !count;
     let refused = command::first(asked, catalogue, Bytes(total));
     if refused != 0 {
         return settle(refused, Bytes(0));
@@ -41,30 +42,27 @@ fn plan(catalogue: u8, mode: u8, fields: Fields, further: &[u8], room: Bytes) ->
     )
 }
 
-// The head of a command of so many bytes.
+// The head of a command of so many bytes. `as`, since their number is asked to fit.
+#[tactic(auto, using(space_packet::proofs::Bytes::word_sent))]
 fn head(fields: Fields, total: Bytes) -> [u8; HEAD.0]
     requires { (fields.sequence < sequence_counts) × (least_bytes ≤ total.0) × (total.0 < 65536) }
     ensures { result ≡ laid widths (head_of total.0 fields) }
 {
     let sequence = SEQUENCE_TOP * SEQUENCE_COUNTS + fields.sequence;
     let size = (total.0 - LENGTH_LESS.0) as u16;
-    [
-        number::high_byte(ID),
-        number::low_byte(ID),
-        number::high_byte(sequence),
-        number::low_byte(sequence),
-        number::high_byte(size),
-        number::low_byte(size),
-        fields.command_type,
-        fields.qualifier,
-        number::high_byte(fields.address),
-        number::low_byte(fields.address),
-        number::high_byte(fields.data),
-        number::low_byte(fields.data),
-    ]
+    let mut bytes = [0; HEAD.0];
+    bytes[..2].copy_from_slice(&ID.to_be_bytes());
+    bytes[2..4].copy_from_slice(&sequence.to_be_bytes());
+    bytes[4..6].copy_from_slice(&size.to_be_bytes());
+    bytes[6] = fields.command_type;
+    bytes[7] = fields.qualifier;
+    bytes[8..10].copy_from_slice(&fields.address.to_be_bytes());
+    bytes[10..].copy_from_slice(&fields.data.to_be_bytes());
+    bytes
 }
 
 // A command into lent room.
+#[tactic(auto, using(crate::proofs::Replies::writer))]
 pub fn write(catalogue: u8, mode: u8, fields: Fields, further: &[u8], room: &mut [u8]) -> Sent
     ensures value { result ≡ write_reply catalogue mode fields further.now (length room.old) }
     ensures room_after { room.new ≡ write_room catalogue mode fields further.now room.old }

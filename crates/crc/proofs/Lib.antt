@@ -1,2 +1,3 @@
 pub mod Laws
+pub mod Lanes
 pub mod Turns

@@ -4,10 +4,8 @@
 mod held;
 mod wide;
 
-ghost use Rattle.std.specs.Prelude.{◌≡◌, ◌≤◌, length, drop};
-ghost use Rattle.crc.specs.Crc.{crc_words, crc_bytes};
-
-use base::{Bytes, Words};
+ghost use Rattle.std.specs.Prelude.{◌≡◌};
+ghost use Rattle.crc.specs.Crc.{crc_step, crc_words, crc_bytes};
 
 // The register at the start of a message.
 pub const START: u16 = 0xffff;
@@ -16,77 +14,64 @@ pub const START: u16 = 0xffff;
 pub fn words(start: u16, message: &[u16]) -> u16
     ensures { result ≡ crc_words start message.now }
 {
-    let n = message.len();
-    if n < 4 {
+    let (head, blocks) = message.as_rchunks::<4>();
+    let (Some(first), Some((next, rest))) = (message.first_chunk::<4>(), blocks.split_first())
+    else {
         return few_words(start, message);
-    }
-    let head = n % 4;
-    let first = held::words_at(message, Words(0));
-    let h = held::begin(
-        start,
-        first,
-        Words(head),
-        held::words_at(message, Words(head)),
-    );
-    let mut w = wide::widen(h);
-    let mut i = head + 4;
-    while i < n {
-        w = wide::join(w, wide::words_at(message, Words(i)));
-        i += 4;
+    };
+    let begun = held::begin(start, held::pack(first), head.len(), held::pack(next));
+    let mut w = wide::widen(begun);
+    for block in rest {
+        w = wide::join(w, wide::pack(block));
     }
     held::register(wide::narrow(w))
 }
 
-// One word at a time.
+// One word at a time. What this shares with `few_bytes` is std's `fold`: a word goes in whole, and a byte at the top.
 fn few_words(start: u16, message: &[u16]) -> u16
     ensures { result ≡ crc_words start message.now }
 {
-    let mut r = start;
-    let mut i = 0;
-    while i < message.len() {
-        r = crc_division::sixteen(r ^ message[i]);
-        i += 1;
-    }
-    r
+    message.iter().fold(start, |r, word| next_word(r, *word))
 }
 
-// A message of bytes: an odd one, and then as words, two bytes to a word.
+fn next_word(r: u16, word: u16) -> u16
+    ensures { result ≡ crc_step 16 r word }
+{
+    crc_division::sixteen(r ^ word)
+}
+
+// A message of bytes: an odd one, and then as words, two bytes to a word. The loop is not that of `words`: eight bytes make a block with its first word
+// highest, which `held` takes as it is, and `wide` the other way round.
 pub fn bytes(start: u16, message: &[u8]) -> u16
     ensures { result ≡ crc_bytes start message.now }
 {
-    let n = message.len();
-    if n < 8 {
-        return first_bytes(start, message, Bytes(n));
-    }
-    let head = n % 8;
-    let odd = head % 2;
-    let r = first_bytes(start, message, Bytes(odd));
-    let first = held::bytes_at(message, Bytes(odd));
+    let (front, pairs) = message.split_at(message.len() % 2);
+    let r = few_bytes(start, front);
+    let (head, blocks) = pairs.as_rchunks::<8>();
+    let (Some(first), Some((next, rest))) = (pairs.first_chunk::<8>(), blocks.split_first()) else {
+        return few_bytes(r, pairs);
+    };
     let mut h = held::begin(
         r,
-        first,
-        Words(head / 2),
-        held::bytes_at(message, Bytes(head)),
+        held::pack_bytes(first),
+        head.len() / 2,
+        held::pack_bytes(next),
     );
-    let mut i = head + 8;
-    while i < n {
-        h = held::join(h, held::bytes_at(message, Bytes(i)));
-        i += 8;
+    for block in rest {
+        h = held::join(h, held::pack_bytes(block));
     }
     held::register(h)
 }
 
-// The bytes up to a place, one at a time: those that are left take the register to the message's CRC.
-fn first_bytes(start: u16, message: &[u8], end: Bytes) -> u16
-    requires { end.0 ≤ length message.now }
-    ensures { crc_bytes result (drop end.0 message.now) ≡ crc_bytes start message.now }
+// One byte at a time.
+fn few_bytes(start: u16, message: &[u8]) -> u16
+    ensures { result ≡ crc_bytes start message.now }
 {
-    let n = end.0;
-    let mut r = start;
-    let mut i = 0;
-    while i < n {
-        r = crc_division::eight(r ^ ((message[i] as u16) << 8));
-        i += 1;
-    }
-    r
+    message.iter().fold(start, |r, byte| next_byte(r, *byte))
+}
+
+fn next_byte(r: u16, byte: u8) -> u16
+    ensures { result ≡ crc_step 8 r byte }
+{
+    crc_division::eight(r ^ (u16::from(byte) << 8))
 }

@@ -1,12 +1,11 @@
 // A run of words, held as sixteen words that have its register: the polynomial divides x^256 + x^192 + x^80 + 1, so four words are
 // put down again 4, 11 and 16 words later, at whole words. So a block can have its first word lowest, as one load of 64 bits gives it.
-ghost use Rattle.std.specs.Prelude.{◌≡◌, ◌+◌, ◌≤◌, length};
+ghost use Rattle.std.specs.Prelude.{◌≡◌};
 ghost use Rattle.crc_division.specs.Blocks.{lanes, after_block};
-ghost use Rattle.crc.specs.Held.{words_at, register_of, register_of_wide};
+ghost use Rattle.crc.specs.Held.{register_of, register_of_wide};
 
 use crate::held;
 use crate::held::Held;
-use base::Words;
 
 // Sixteen words, four to a block.
 #[derive(Clone, Copy)]
@@ -17,12 +16,11 @@ pub struct Wide {
     pub fourth: u64,
 }
 
-// The four words at a place.
-pub fn words_at(message: &[u16], at: Words) -> u64
-    requires { at.0 + 4 ≤ length message.now }
-    ensures { lanes result ≡ words_at message.now at.0 }
+// The block of four words.
+pub fn pack(words: &[u16; 4]) -> u64
+    ensures { lanes result ≡ words.now }
 {
-    held::turned(held::words_at(message, at))
+    held::turned(held::pack(words))
 }
 
 // Eight words with eight zeros before them.

@@ -30,7 +30,7 @@ pub fn sixteen(r: u16) -> u16
 pub fn sixty_four(r: u16, block: u64) -> u16
     ensures { result ≡ after_block r block }
 {
-    let x = block ^ (r as u64);
+    let x = block ^ u64::from(r);
     let y = (x << 48) ^ (x >> 16 << 48 >> 16) ^ (x << 16 >> 48 << 16) ^ (x >> 48);
     let e = y ^ (y >> 4) ^ (y >> 11) ^ (y >> 16);
     let f = e ^ (e >> 8) ^ (e >> 22) ^ (e >> 32);

@@ -2,17 +2,19 @@
 // A line that begins with # is printed as it is.
 #![tactic(auto)]
 
-ghost use Rattle.std.specs.Prelude.{◌<◌, ◌≤◌, length};
-ghost use Rattle.io.specs.Counts.{IsPrefixLen};
+ghost use Rattle.std.specs.Prelude.{◌<◌};
 
-use base::{Bytes, Words, number};
+use base::{Bytes, number};
 
 // Where the register begins in a line, and where the message.
 const REGISTER: Bytes = Bytes(3);
 
 const MESSAGE: Bytes = Bytes(8);
 
-// A hexadecimal digit's value; another character counts as 0.
+// the most items of a message that are read
+const ITEMS: usize = 1024;
+
+// A hexadecimal digit's value; another character counts as 0, an upper case letter too, which `char::to_digit` takes.
 fn digit(c: u8) -> u8
     ensures { result < 16 }
 {
@@ -23,111 +25,77 @@ fn digit(c: u8) -> u8
     }
 }
 
-fn byte(high: u8, low: u8) -> u8 {
-    digit(high) * 16 + digit(low)
+// The byte of two digits; 0 where there are fewer.
+fn byte(digits: &[u8]) -> u8 {
+    match digits {
+        [high, low, ..] => digit(*high) * 16 + digit(*low),
+        _ => 0,
+    }
 }
 
-// The word at a place of a line; 0 where the line ends before.
-fn word(line: &[u8], at: Bytes) -> u16 {
-    let i = at.0;
-    if line.len() < 4 {
+// The word of four digits; 0 where there are fewer.
+fn word(digits: &[u8]) -> u16 {
+    if digits.len() < 4 {
         return 0;
     }
-    if line.len() - 4 < i {
-        return 0;
-    }
-    number::word(byte(line[i], line[i + 1]), byte(line[i + 2], line[i + 3]))
+    number::word(byte(&digits[..2]), byte(&digits[2..]))
 }
 
-// The message as bytes: how many of the room are filled.
-fn read_bytes(line: &[u8], room: &mut [u8]) -> Bytes
-    ensures { IsPrefixLen result.0 room.new }
-{
-    let mut n = 0;
-    let mut at = MESSAGE.0;
-    while n < room.len() {
-        if line.len() < at + 2 {
-            return Bytes(n);
-        }
-        room[n] = byte(line[at], line[at + 1]);
-        n += 1;
-        at += 2;
-    }
-    Bytes(n)
+// What stands in a line from a place on.
+fn after(line: &[u8], place: Bytes) -> &[u8] {
+    line.get(place.0..).unwrap_or(&[])
 }
 
-// The message as words: how many of the room are filled.
-fn read_words(line: &[u8], room: &mut [u16]) -> Words
-    ensures { IsPrefixLen result.0 room.new }
+// The message as items of so many digits each, as many as the room holds.
+fn read<'a, T: Copy, F: Fn(&[u8]) -> T>(
+    line: &[u8],
+    width: usize,
+    item: F,
+    room: &'a mut [T],
+) -> &'a [T]
+    requires callable { F.IsAlwaysCallable item }
+    requires some { 0 < width }
 {
-    let mut n = 0;
-    let mut at = MESSAGE.0;
-    while n < room.len() {
-        if line.len() < at + 4 {
-            return Words(n);
-        }
-        room[n] = word(line, Bytes(at));
-        n += 1;
-        at += 4;
+    let message = after(line, MESSAGE);
+    let count = room.len().min(message.len() / width);
+    for (place, digits) in room.iter_mut().zip(message.chunks_exact(width)) {
+        *place = item(digits);
     }
-    Words(n)
+    &room[..count]
 }
 
 fn crc_of_bytes(line: &[u8]) -> u16 {
-    let mut room = [0u8; 1024];
-    let n = read_bytes(line, &mut room).0;
-    crc::bytes(word(line, REGISTER), &room[..n])
+    let mut room = [0u8; ITEMS];
+    crc::bytes(word(after(line, REGISTER)), read(line, 2, byte, &mut room))
 }
 
 fn crc_of_words(line: &[u8]) -> u16 {
-    let mut room = [0u16; 1024];
-    let n = read_words(line, &mut room).0;
-    crc::words(word(line, REGISTER), &room[..n])
+    let mut room = [0u16; ITEMS];
+    crc::words(word(after(line, REGISTER)), read(line, 4, word, &mut room))
 }
 
-// A line begins with 0 for bytes, 08, and with 1 for words, 16.
+// The CRC of a line's message: a line begins with 0 for bytes, 08, and with 1 for words, 16.
+fn crc_of(line: &[u8]) -> Option<u16> {
+    match line.first() {
+        Some(b'0') => Some(crc_of_bytes(line)),
+        Some(b'1') => Some(crc_of_words(line)),
+        _ => None,
+    }
+}
+
 fn print_line(line: &[u8]) {
     io::write_all(1, line);
-    if 0 < line.len() {
-        let first = line[0];
-        if first == b'0' {
-            io::write_all(1, b" = ");
-            io::print_hex(1, crc_of_bytes(line) as u64, 4);
-        }
-        if first == b'1' {
-            io::write_all(1, b" = ");
-            io::print_hex(1, crc_of_words(line) as u64, 4);
-        }
+    if let Some(crc) = crc_of(line) {
+        io::write_all(1, b" = ");
+        io::print_hex(1, u64::from(crc), 4);
     }
     io::write_all(1, b"\n");
-}
-
-// Where the line that begins at a place ends.
-fn line_end(text: &[u8], from: usize) -> usize
-    requires { from ≤ length text.now }
-    ensures { (from ≤ result) × (result ≤ length text.now) }
-{
-    let mut i = from;
-    while i < text.len() {
-        if text[i] == b'\n' {
-            return i;
-        }
-        i += 1;
-    }
-    i
-}
-
-fn print_lines(text: &[u8]) {
-    let mut at = 0;
-    while at < text.len() {
-        let end = line_end(text, at);
-        print_line(&text[at..end]);
-        at = end + 1;
-    }
 }
 
 fn main() {
     let mut text = io::buffer();
     let n = io::read_full(0, &mut text);
-    print_lines(&text[..n]);
+    for line in text[..n].split_inclusive(|c| *c == b'\n') {
+        print_line(line.strip_suffix(b"\n").unwrap_or(line));
+    }
 }

@@ -1,6 +1,6 @@
 -- What the readers answer of any packet: where nothing is refused, what stands there; a slot above 63 is refused whatever stands there.
 use mathlib.Core.Path.{◌≡◌, refl, sym, ap, ◌∙◌}
-use mathlib.Core.Bool.{Bool, true, false, cond, not, ◌||◌}
+use mathlib.Core.Bool.{Bool, false, cond, not, ◌||◌}
 use mathlib.Core.List.{List, [], ◌∷◌}
 use Prim.Native.Nat.{ℕ, ◌≤◌, ◌<◌}
 use lib.Dec.{eqb, ltb}
@@ -9,9 +9,9 @@ use Rattle.base.specs.Refusal.{Causes, verdict, answer}
 use Rattle.base.proofs.Booleans.{and_both, and_right, or-false, by-test}
 use Rattle.base.proofs.Refused.{Spared, spared, answer-yes, answer-no, answer-number}
 use Rattle.event.specs.declared.Head.{Head}
-use Rattle.event.specs.declared.SlotTime.TheVariants.{At, NoEvent}
-use Rattle.event.specs.Layout.{data_type, slot_count, type_in, head_in, slot_at, empty_slot, detector_wrong, slots_by, some_slot, is_used, held, slot_in}
-use Rattle.event.specs.Time.{sixteenths, seconds, event_of, no_event, placed, event_from, event_in}
+use Rattle.std.proofs.Common.{Some, None}
+use Rattle.event.specs.Layout.{data_type, slot_count, type_in, head_in, slot_at, detector_wrong, slots_by, some_slot, is_used, slot_in}
+use Rattle.event.specs.Time.{event_at, event_from, event_in}
 use Rattle.event_reading.specs.declared.HeadReply.{HeadReply}
 use Rattle.event_reading.specs.declared.EventReply.{EventReply}
 use Rattle.event_reading.specs.Reading.{head_causes, slot_causes, head_given, head_refused, head_reply, slot_given, slot_refused, slot_reply, event_given, event_refused, event_reply}
@@ -82,27 +82,23 @@ module _ (bs : List ℕ) where
     event-refused n = answer-no _ _ _ n
 
     -- used
-    pub slot-used : i < slot_count → i < (head_in bs).count → slot_in bs i ≡ held true (slot_at bs i)
+    pub slot-used : i < slot_count → i < (head_in bs).count → slot_in bs i ≡ Some (slot_at bs i)
     unfolding slot_in
     slot-used h k =
-        ap (λ (b : Bool). cond b (held true (slot_at bs i)) (held false empty_slot))
+        ap (λ (b : Bool). cond b (Some (slot_at bs i)) None)
         (and_both (ltb i slot_count) (ltb i (head_in bs).count) (lt-ltb i slot_count h) (lt-ltb i (head_in bs).count k))
 
-    pub event-used : i < slot_count → i < (head_in bs).count
-        → event_in bs i
-        ≡ placed (At (seconds (sixteenths (head_in bs).start (slot_at bs i)))) (event_of (slot_at bs i) (seconds (sixteenths (head_in bs).start (slot_at bs i))))
-    unfolding event_from
+    pub event-used : i < slot_count → i < (head_in bs).count → event_in bs i ≡ Some (event_at (head_in bs).start (slot_at bs i))
     event-used h k = ap (event_from (head_in bs).start) (slot-used h k)
 
     -- not used
-    pub slot-unused : (i < (head_in bs).count → ⊥) → slot_in bs i ≡ held false empty_slot
+    pub slot-unused : (i < (head_in bs).count → ⊥) → slot_in bs i ≡ None
     unfolding slot_in
     slot-unused n =
         by-test (is_used (head_in bs).count i) (λ t. absurd (n (ltb-true _ _ (and_right (ltb i slot_count) (ltb i (head_in bs).count) t))))
-        (λ f. ap (λ (b : Bool). cond b (held true (slot_at bs i)) (held false empty_slot)) f)
+        (λ f. ap (λ (b : Bool). cond b (Some (slot_at bs i)) None) f)
 
-    pub event-unused : (i < (head_in bs).count → ⊥) → event_in bs i ≡ placed NoEvent no_event
-    unfolding event_from
+    pub event-unused : (i < (head_in bs).count → ⊥) → event_in bs i ≡ None
     event-unused n = ap (event_from (head_in bs).start) (slot-unused n)
 
 -- ---- what an accepted packet says

@@ -20,9 +20,9 @@ use Rattle.space_packet.specs.Header.{sequence_top, sequence_counts, length_less
 use Rattle.space_packet.proofs.Bytes.{header-by-fields}
 use Rattle.event.specs.declared.Head.{Head}
 use Rattle.event.specs.declared.Slot.{Slot}
-use Rattle.event.specs.declared.Held.{Held}
-use Rattle.event.specs.declared.Placed.{Placed}
-use Rattle.event.specs.Layout.{packet_bytes, packet_id, data_type, slot_count, slot_place, field, type_in, head_in, slot_from, slot_at, detector_wrong, slots_by, some_slot, held, slot_in}
+use Rattle.event.specs.declared.Event.{Event}
+use Rattle.std.proofs.Common.{Option, Some}
+use Rattle.event.specs.Layout.{packet_bytes, packet_id, data_type, slot_count, slot_place, field, type_in, head_in, slot_from, slot_at, detector_wrong, slots_by, some_slot, slot_in}
 use Rattle.event.specs.Time.{event_from}
 use Rattle.event_reading.specs.Reading.{contents_wrong, head_causes, slot_causes, head_given, head_refused, head_reply, slot_given, slot_refused, slot_reply, event_given, event_refused, event_reply}
 use Rattle.event_laws.specs.Reread.{stretch, looked_at}
@@ -127,7 +127,7 @@ module _ (bs cs : List ℕ) (b : Intact bs) (c : Intact cs) (e : looked_at (used
 
   held-used : (i : ℕ) → i < slot_count → i < (head_in bs).count → slot_in cs i ≡ slot_in bs i
   held-used i within k =
-      slot-used cs i within (omega (arith, count-alike)) ∙ ap (held true) (slot-alike i (omega arith)) ∙ sym (slot-used bs i within k)
+      slot-used cs i within (omega (arith, count-alike)) ∙ ap Some (slot-alike i (omega arith)) ∙ sym (slot-used bs i within k)
 
   held-unused : (i : ℕ) → (head_in bs).count ≤ i → slot_in cs i ≡ slot_in bs i
   held-unused i past = slot-unused cs i (λ k. omega (arith, k, count-alike)) ∙ sym (slot-unused bs i (λ k. omega (arith, k)))
@@ -179,7 +179,7 @@ module _ (bs cs : List ℕ) (b : Intact bs) (c : Intact cs) (e : looked_at (used
   unfolding slot_reply
   same-slot i =
       by-test (ltb i slot_count)
-      (λ t. ap₂ (λ (v : ℕ) (h : Held). answer v slot_refused (slot_given 0 h)) (slot-verdict-alike i) (held-alike i (ltb-true _ _ t)))
+      (λ t. ap₂ (λ (v : ℕ) (h : Option Slot). answer v slot_refused (slot_given 0 h)) (slot-verdict-alike i) (held-alike i (ltb-true _ _ t)))
       (λ f. slot-outside cs i (ltb-false _ _ f) ∙ sym (slot-outside bs i (ltb-false _ _ f)))
 
   same-event : (i : ℕ) → event_reply cs i ≡ event_reply bs i
@@ -187,7 +187,7 @@ module _ (bs cs : List ℕ) (b : Intact bs) (c : Intact cs) (e : looked_at (used
   same-event i =
       by-test (ltb i slot_count)
       (λ t.
-      ap₂ (λ (v : ℕ) (p : Placed). answer v event_refused (event_given 0 p)) (slot-verdict-alike i)
+      ap₂ (λ (v : ℕ) (p : Option Event). answer v event_refused (event_given 0 p)) (slot-verdict-alike i)
       (ap₂ event_from start-alike (held-alike i (ltb-true _ _ t))))
       (λ f. event-outside cs i (ltb-false _ _ f) ∙ sym (event-outside bs i (ltb-false _ _ f)))
 

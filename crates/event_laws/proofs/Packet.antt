@@ -8,7 +8,8 @@ use native.Mathlib.Omega.{arith}
 use lib.Dec.{eqb, ltb}
 use lib.ListN.{length, get_or, take, replicate, length-append, get_or-append}
 use lib.Seq.{length-take-le, get_or-take}
-use borrow.Author.Tests.{eq-eqb, lt-ltb, le-ltb}
+use borrow.Author.Tests.{eq-eqb, lt-ltb, le-ltb, ltb-false}
+use Rattle.base.proofs.Booleans.{or-false}
 use Rattle.base.specs.Refusal.{verdict}
 use Rattle.crc.specs.Crc.{crc_start, crc_bytes}
 use Rattle.space_packet.specs.Layout.{word, bytes_of, laid, read_off}
@@ -20,7 +21,7 @@ use Rattle.event.specs.declared.Slot.{Slot}
 use Rattle.event.specs.Layout.{packet_id, head_widths, head_numbers, head_in, slot_widths, slot_numbers, slot_from, slot_at, empty_slot, detector_wrong, slots_by, some_slot, slots_written, slots_laid, slot_bytes, body_bytes, event_bytes}
 use Rattle.event_reading.specs.Reading.{contents_wrong, head_causes}
 use Rattle.event_writing.specs.Writing.{slot_wrong}
-use Rattle.event_writing.proofs.Slots.{slot_laid, first-right, slot-fits, so-far-length, body-laid}
+use Rattle.event_writing.proofs.Slots.{slot_laid, none_passes, so-far-length, body-laid}
 use Rattle.event_laws.proofs.Answers.{verdict-spared}
 use Rattle.event_laws.proofs.Rows.{all_right, by_length, from_start}
 
@@ -44,6 +45,14 @@ slot-from : (s : Slot) (n m : ℕ) → n / 8 ≡ s.detector → n % 8 ≡ s.flag
 slot-from s n m d f x y =
     ap₂ (λ (a b : ℕ). record { detector = a; flags = b; second = s.second; sixteenth = m / 4096; signal = m % 4096 }) d f
     ∙ ap₂ (λ (a b : ℕ). record { detector = s.detector; flags = s.flags; second = s.second; sixteenth = a; signal = b }) x y
+
+-- a slot that is not wrong has small fields
+slot-fits : (s : Slot) → slot_wrong s ≡ false → (s.detector ≤ 23) × (s.flags ≤ 7) × (s.sixteenth ≤ 15) × (s.signal ≤ 4095)
+slot-fits s e =
+    let three = or-false _ _ e in
+    let two = or-false _ _ three.0 in
+    let one = or-false _ _ two.0 in
+    (ltb-false _ _ one.0, ltb-false _ _ one.1, ltb-false _ _ two.1, ltb-false _ _ three.1)
 
 slot-back : (s : Slot) → slot_wrong s ≡ false → slot_from (slot_numbers s) ≡ s
 slot-back s e =
@@ -77,7 +86,7 @@ module _ (h : Head) (ss : List Slot) where
 
   module _ (long : length ss ≡ 64) (few : h.count ≤ 64) where
     body-length : length (slot_bytes h.count ss) ≡ 258
-    body-length = ap length (sym (body-laid ss h.count few)) ∙ so-far-length ss h.count long few
+    body-length = ap length (sym (body-laid ss h.count few)) ∙ so-far-length ss (omega arith) h.count (omega arith)
 
     pub packet-length : length (event_bytes h ss) ≡ 280
     unfolding event_bytes
@@ -99,8 +108,13 @@ module _ (h : Head) (ss : List Slot) where
         ∙ ap slot_numbers (used-first i k)
 
     module _ (right : some_slot slot_wrong (take h.count ss) ≡ false) where
+      used-right : (i : ℕ) → i < h.count → slot_wrong (get_or ss i empty_slot) ≡ false
+      used-right i k =
+          let n : length (take h.count ss) ≡ h.count = length-take-le h.count ss (omega arith) in
+          ap slot_wrong (sym (get_or-take h.count ss i empty_slot k)) ∙ none_passes slot_wrong (take h.count ss) right i (omega arith)
+
       pub slot-stood : (i : ℕ) → i < h.count → slot_at (event_bytes h ss) i ≡ get_or ss i empty_slot
-      slot-stood i k = ap slot_from (slot-stands i k) ∙ slot-back (get_or ss i empty_slot) (first-right ss long h.count few i right k)
+      slot-stood i k = ap slot_from (slot-stands i k) ∙ slot-back (get_or ss i empty_slot) (used-right i k)
 
       -- ---- judged
 
@@ -111,7 +125,7 @@ module _ (h : Head) (ss : List Slot) where
           each : (i : ℕ) → i < h.count → detector_wrong (get_or (slots_by (slot_at (event_bytes h ss)) 0 h.count) i empty_slot) ≡ false
           each i k =
               ap detector_wrong (from_start (slot_at (event_bytes h ss)) h.count i k ∙ slot-stood i k)
-              ∙ le-ltb 23 (get_or ss i empty_slot).detector (slot-fits (get_or ss i empty_slot) (first-right ss long h.count few i right k)).0
+              ∙ le-ltb 23 (get_or ss i empty_slot).detector (slot-fits (get_or ss i empty_slot) (used-right i k)).0
 
       module _ (k : h.sequence < 16384) where
         header-right : header_wrong packet_id (event_bytes h ss) ≡ false

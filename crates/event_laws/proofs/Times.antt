@@ -13,9 +13,9 @@ use Rattle.base.specs.Refusal.{verdict}
 use Rattle.base.proofs.Booleans.{by-test}
 use Rattle.space_packet.specs.Layout.{AreBytes}
 use Rattle.event.specs.declared.Head.{Head}
-use Rattle.event.specs.declared.SlotTime.TheVariants.{At}
-use Rattle.event.specs.Layout.{slot_count, slot_place, head_in, slot_at, held}
-use Rattle.event.specs.Time.{sixteenths, seconds, slot_time_number, event_of, placed}
+use Rattle.std.proofs.Common.{Some}
+use Rattle.event.specs.Layout.{slot_count, slot_place, head_in, slot_at}
+use Rattle.event.specs.Time.{sixteenths, seconds, slot_time_number, event_at}
 use Rattle.event.proofs.Exact.{cast-exact, halved}
 use Rattle.event_reading.specs.declared.SlotReply.{SlotReply}
 use Rattle.event_reading.specs.declared.EventReply.{EventReply}
@@ -38,7 +38,7 @@ exactly n h = record { whole = cast-exact binary64 n (le_of_lt h); divided = ref
 
 module _ (bs : List ℕ) (i : ℕ) where
   -- the reply for a slot that is below the count of an accepted packet, and for one that is not
-  reply-below : verdict (slot_causes bs i) ≡ 0 → i < (head_in bs).count → slot_reply bs i ≡ slot_given 0 (held true (slot_at bs i))
+  reply-below : verdict (slot_causes bs i) ≡ 0 → i < (head_in bs).count → slot_reply bs i ≡ slot_given 0 (Some (slot_at bs i))
   reply-below z h = slot-given bs i z ∙ ap (slot_given 0) (slot-used bs i (slot-within bs i z) h)
 
   reply-past : verdict (slot_causes bs i) ≡ 0 → (i < (head_in bs).count → ⊥) → (slot_reply bs i).used ≡ false
@@ -77,7 +77,7 @@ module _ (bs : List ℕ) (i : ℕ) where
       let said : sixteenths (head_reply bs).head.start (slot_reply bs i).slot ≡ n =
       ap₂ (λ (x : Head) (r : SlotReply). sixteenths x.start r.slot) (head-as-read bs (packet-judged bs i z)) (reply-below bs i z h)
       in
-      let e : event_reply bs i ≡ event_given 0 (placed (At t) (event_of (slot_at bs i) t)) =
+      let e : event_reply bs i ≡ event_given 0 (Some (event_at (head_in bs).start (slot_at bs i))) =
       event-given bs i z ∙ ap (event_given 0) (event-used bs i (slot-within bs i z) h)
       in
       record {

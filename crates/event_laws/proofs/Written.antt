@@ -1,6 +1,5 @@
 -- What the writer leaves in the room is the packet of the layout, which the readers accept: the head comes back, each used slot, and nothing for the others.
 use mathlib.Core.Path.{◌≡◌, refl, sym, ap, ap₂, subst, ◌∙◌}
-use mathlib.Core.Bool.{true}
 use mathlib.Core.List.{List}
 use Prim.Native.Nat.{ℕ, ◌≤◌, ◌<◌}
 use native.Mathlib.Omega.{arith}
@@ -9,12 +8,12 @@ use Rattle.base.specs.Refusal.{verdict}
 use Rattle.space_packet.proofs.Replies.{packet-left}
 use Rattle.event.specs.declared.Head.{Head}
 use Rattle.event.specs.declared.Slot.{Slot}
-use Rattle.event.specs.declared.SlotTime.TheVariants.{At}
-use Rattle.event.specs.Layout.{slot_count, head_in, slot_at, empty_slot, held, event_bytes}
-use Rattle.event.specs.Time.{sixteenths, seconds, event_of, placed}
+use Rattle.std.proofs.Common.{Some}
+use Rattle.event.specs.Layout.{slot_count, head_in, slot_at, empty_slot, event_bytes}
+use Rattle.event.specs.Time.{event_at}
 use Rattle.event_reading.specs.Reading.{head_causes, slot_causes, head_given, slot_given, event_given}
 use Rattle.event_writing.specs.Writing.{write_causes, write_reply, write_room}
-use Rattle.event_writing.proofs.Replies.{reply-number, sequence-fits, slots-fit, packet-fits}
+use Rattle.event_writing.proofs.Replies.{reply-number, sequence-fits, count-fits, slots-right, packet-fits}
 use Rattle.event_laws.specs.Written.{written, Used, Unused, ComesBack, EventsComeBack}
 use Rattle.event_laws.proofs.Answers.{head-given, slot-judged, slot-given, event-given, slot-used, slot-unused, event-used, event-unused}
 use Rattle.event_laws.proofs.Packet.{head-back, packet-length, slot-stood, packet-accepted}
@@ -32,12 +31,12 @@ module _ (bs : List ℕ) (h : Head) (ss : List Slot) (z : verdict (head_causes b
         let below : i < (head_in bs).count = omega (arith, count-back) in
         let accepted : verdict (slot_causes bs i) ≡ 0 = slot-judged bs i within z in
         record {
-          slot = slot-given bs i accepted ∙ ap (slot_given 0) (slot-used bs i within below ∙ ap (held true) (stood i k));
+          slot = slot-given bs i accepted ∙ ap (slot_given 0) (slot-used bs i within below ∙ ap Some (stood i k));
           event =
               event-given bs i accepted
               ∙ ap (event_given 0)
               (event-used bs i within below
-              ∙ ap₂ (λ (g : Head) (s : Slot). placed (At (seconds (sixteenths g.start s))) (event_of s (seconds (sixteenths g.start s)))) back (stood i k));
+              ∙ ap₂ (λ (g : Head) (s : Slot). Some (event_at g.start s)) back (stood i k));
         }
 
     unused-back : h.count ≤ i → i < slot_count → Unused bs i
@@ -56,7 +55,7 @@ module _ (bs : List ℕ) (h : Head) (ss : List Slot) (z : verdict (head_causes b
 
 module _ (h : Head) (ss : List Slot) (room : List ℕ) (long : length ss ≡ slot_count) (z : (write_reply h ss (length room)).refusal ≡ 0) where
   few : h.count ≤ slot_count
-  few = (slots-fit h ss room refl z).0
+  few = count-fits h ss room refl z
 
   -- what stands in the room
   pub written-is-packet : written h ss room ≡ event_bytes h ss
@@ -67,7 +66,7 @@ module _ (h : Head) (ss : List Slot) (room : List ℕ) (long : length ss ≡ slo
 
   packet-back : ComesBack (event_bytes h ss) h ss
   packet-back =
-      let right = (slots-fit h ss room refl z).1 in
+      let right = slots-right h ss room refl z in
       let fits = sequence-fits h ss room refl z in
       comes_back (event_bytes h ss) h ss (packet-accepted h ss long few right fits) (head-back h ss fits) few (slot-stood h ss long few right)
 

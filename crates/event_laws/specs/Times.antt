@@ -5,7 +5,7 @@ use Rattle.std.specs.Float.Ieee.{div, of_int}
 use Rattle.std.specs.Float.Ieee.Exact.{HasValue}
 use Rattle.space_packet.specs.Layout.{AreBytes}
 use Rattle.event.specs.Time.{sixteenths, sixteen, slot_time_number, slot_time_has, event_in}
-use Rattle.event_reading.specs.Reading.{head_reply, slot_reply, event_reply}
+use Rattle.event_reading.specs.Reading.{time_of, event_or_zeros, head_reply, slot_reply, event_reply}
 
 -- A time t of n sixteenths. The float of n is n itself, and t is that float divided by the float of 16: it is finite, not negative, and n / 16 itself.
 pub record Exactly (n : ℕ) (t : Float) : Type 0 where
@@ -30,4 +30,4 @@ pub record TimesAreExact : Type 0 where
 -- `event_in` agrees with `read_event` where that accepts
 abbrev pub EventInAgrees : Type 0
 EventInAgrees = (bs : List ℕ) (i : ℕ) → (event_reply bs i).refusal ≡ 0
-    → ((event_in bs i).time ≡ (event_reply bs i).time) × ((event_in bs i).event ≡ (event_reply bs i).event)
+    → (time_of (event_in bs i) ≡ (event_reply bs i).time) × (event_or_zeros (event_in bs i) ≡ (event_reply bs i).event)

@@ -1,10 +1,9 @@
 -- FORMAT, "Event packets": what the writer writes, the readers give back. Of the replies, and of what the writer leaves in the room.
-use Rattle.std.specs.Prelude.{ℕ, ◌<◌, ◌≤◌, ◌≡◌, true, false, List, length, get_or, take}
+use Rattle.std.specs.Prelude.{ℕ, ◌<◌, ◌≤◌, ◌≡◌, Some, None, List, length, get_or, take}
 use Rattle.event.specs.declared.Head.{Head}
 use Rattle.event.specs.declared.Slot.{Slot}
-use Rattle.event.specs.declared.SlotTime.TheVariants.{At, NoEvent}
-use Rattle.event.specs.Layout.{slot_count, empty_slot, held}
-use Rattle.event.specs.Time.{sixteenths, seconds, event_of, no_event, placed}
+use Rattle.event.specs.Layout.{slot_count, empty_slot}
+use Rattle.event.specs.Time.{event_at}
 use Rattle.event_reading.specs.Reading.{head_given, slot_given, event_given, head_reply, slot_reply, event_reply}
 use Rattle.event_writing.specs.Writing.{write_reply, write_room}
 
@@ -14,13 +13,13 @@ written h ss room = take (write_reply h ss (length room)).length.0 (write_room h
 
 -- the readers' replies for a slot that is used
 pub record Used (bs : List ℕ) (start : ℕ) (s : Slot) (i : ℕ) : Type 0 where
-  pub slot : slot_reply bs i ≡ slot_given 0 (held true s)
-  pub event : event_reply bs i ≡ event_given 0 (placed (At (seconds (sixteenths start s))) (event_of s (seconds (sixteenths start s))))
+  pub slot : slot_reply bs i ≡ slot_given 0 (Some s)
+  pub event : event_reply bs i ≡ event_given 0 (Some (event_at start s))
 
 -- and for one that is not
 pub record Unused (bs : List ℕ) (i : ℕ) : Type 0 where
-  pub slot : slot_reply bs i ≡ slot_given 0 (held false empty_slot)
-  pub event : event_reply bs i ≡ event_given 0 (placed NoEvent no_event)
+  pub slot : slot_reply bs i ≡ slot_given 0 None
+  pub event : event_reply bs i ≡ event_given 0 None
 
 -- The head comes back, each used slot with its time, and nothing for the others.
 pub record ComesBack (bs : List ℕ) (h : Head) (ss : List Slot) : Type 0 where

@@ -1,6 +1,6 @@
 -- Every part of a reply about a unit is below 256, so that the four bytes of the number are the four parts: the first row or column that differs is 64 at
 -- the most, and a data bit that is found lies in the unit.
-use mathlib.Core.Path.{◌≡◌, refl}
+use mathlib.Core.Path.{◌≡◌, refl, sym, subst}
 use mathlib.Core.Bool.{Bool, true, false, cond, ◌&&◌}
 use mathlib.Core.List.{List, [], ◌∷◌}
 use Prim.Native.Nat.{ℕ, zero, suc, ◌+◌, ◌-◌, ◌*◌, ◌/◌, ◌%◌, ◌<◌, ◌≤◌}
@@ -11,19 +11,20 @@ use borrow.Author.Tests.{ltb-true}
 use Rattle.base.specs.Refusal.{Causes, verdict, answer}
 use Rattle.base.proofs.Booleans.{and_left, and_right}
 use Rattle.base.proofs.Refused.{answer-either, spared}
+use Rattle.parity.specs.declared.Case.{Case}
 use Rattle.parity.specs.declared.Judged.{Judged}
-use Rattle.parity.specs.Unit.{Finding, sound, parity_bit, data_bit, neither, row_differs, column_differs, sum_all, first_of, five_cases, finding, not_unit, reply, named, refused, judge_causes, judge_verdict, judge_reply, check_causes, check_verdict, check_reply}
+use Rattle.parity.specs.Unit.{Finding, sound, parity_bit, data_bit, neither, row_differs, column_differs, sum_all, first_of, five_cases, finding, not_unit, case_number, reply, named, refused, judge_causes, judge_verdict, judge_reply, check_causes, check_verdict, check_reply}
 use Rattle.parity.proofs.Judging.{between}
 use Rattle.exports.specs.Reply.{in_bytes, Says, BytesSayTheReply}
 
 -- each part is a byte
 pub record Small (j : Judged) : Type 0 where
   pub refusal : j.refusal < 256
-  pub case : j.case < 256
+  pub case : case_number j.case < 256
   pub bit : j.bit < 256
   pub word : j.word.0 < 256
 
-small-reply : {v s w b n : ℕ} → v < 256 → s < 256 → w < 256 → b < 256 → Small (reply v s w b n)
+small-reply : {v : ℕ} {s : Case} {w b n : ℕ} → v < 256 → case_number s < 256 → w < 256 → b < 256 → Small (reply v s w b n)
 small-reply p q r t = record { refusal = p; case = q; bit = t; word = r }
 
 -- ---- what is found
@@ -92,6 +93,15 @@ small-judged u = small-answer u (judge_causes u) refl (λ z. (spared (judge_caus
 pub small-checked : (u : List ℕ) (m : ℕ) → Small (check_reply u m)
 unfolding check_reply check_verdict
 small-checked u m = small-answer u (check_causes u m) refl (λ z. (spared (check_causes u m) refl z).0)
+
+-- the word of a reply, as the calls have it
+pub judged-word : {j : Judged} (u : List ℕ) → j ≡ judge_reply u → j.word.0 < 256
+judged-word u e = (subst Small (sym e) (small-judged u)).word
+
+pub checked-word : {j : Judged} (u : List ℕ) (m : ℕ) → j ≡ check_reply u m → j.word.0 < 256
+checked-word u m e = (subst Small (sym e) (small-checked u m)).word
+
+pub ruleset small = (judged-word, checked-word)
 
 -- ---- the number
 

@@ -1,1 +1,1 @@
-mod Reading
+pub mod Reading

@@ -13,7 +13,6 @@ use Rattle.health.specs.Packet.{body_width, type_of_packet, packet_time, packet_
 use Rattle.health.specs.Reading.{read_causes}
 use Rattle.command.specs.declared.Fields.{Fields}
 use Rattle.command_reading.specs.declared.Command.{Command}
-use Rattle.command_reading.specs.Reading.{read_reply}
 use Rattle.space_packet.specs.declared.Sent.{Sent}
 
 -- a refusal and three parts as one number of four words, from the highest; of a part it is the low word

@@ -4,11 +4,12 @@ ghost use Rattle.exports.specs.Answer as says;
 
 use base::Written;
 
-// The refusal and three parts, a word each: of a part its low word.
+// The refusal and three parts, a word each: of a part its low word. No `From` widens a `usize`.
+#[tactic(auto, unfolding(crate::specs::Answer::in_words))]
 pub fn in_words(refusal: u8, a: usize, b: usize, c: usize) -> u64
     ensures { result ≡ says.in_words refusal a b c }
 {
-    ((refusal as u64 * 65536 + a as u64 % 65536) * 65536 + b as u64 % 65536) * 65536
+    ((u64::from(refusal) * 65536 + a as u64 % 65536) * 65536 + b as u64 % 65536) * 65536
         + c as u64 % 65536
 }
 
@@ -19,6 +20,7 @@ pub fn flag(set: bool, worth: usize) -> usize
 }
 
 // A writer's reply: the words written.
+#[tactic(auto, unfolding(crate::specs::Answer::written))]
 pub fn written(w: Written) -> u64
     ensures { result ≡ says.written w }
 {

@@ -8,13 +8,18 @@ use crate::answer;
 use base::number;
 use command::Fields;
 
+// The fields as C has them. No `From`: both types are of other crates.
+#[tactic(auto, unfolding(crate::specs::Answer::packed))]
 fn packed(f: Fields) -> u64
     ensures { result ≡ says.packed f }
 {
     let kind = number::word(f.command_type, f.qualifier);
-    ((f.sequence as u64 * 65536 + kind as u64) * 65536 + f.address as u64) * 65536 + f.data as u64
+    ((u64::from(f.sequence) * 65536 + u64::from(kind)) * 65536 + u64::from(f.address)) * 65536
+        + u64::from(f.data)
 }
 
+// And back.
+#[tactic(auto, unfolding(crate::specs::Answer::unpacked))]
 fn unpacked(n: u64) -> Fields
     ensures { result ≡ says.unpacked n }
 {
@@ -43,6 +48,7 @@ pub fn hawserfen_read_command(catalogue: u8, mode: u8, bytes: &[u8], fields: &mu
 }
 
 // The command writer: the command of these fields to the room.
+#[tactic(auto, unfolding(crate::specs::Answer::sent))]
 pub fn hawserfen_write_command(
     catalogue: u8,
     mode: u8,

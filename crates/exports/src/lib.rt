@@ -1,4 +1,5 @@
 // The calls for C code to link, under names of their own. To C a slice is two arguments, a pointer and a number of words or bytes, and a reply is one number.
+// So an answer is no `Result` here, but a number with the refusal in its highest part, and a recording and its sync word are taken apart.
 #![tactic(auto)]
 
 mod answer;
@@ -28,15 +29,17 @@ pub fn hawserfen_crc_bytes(start: u16, message: &[u8]) -> u16
     crc::bytes(start, message)
 }
 
-// A reply as one number, a byte each for the refusal, the case, the bit and the word.
+// A reply as one number, a byte each for the refusal, the case, the bit and the word. `as` gives the number of the case, and narrows the word, which fits.
+#[tactic(auto, unfolding(crate::specs::Reply::in_bytes))]
 fn in_bytes(r: Judged) -> u32
     requires { r.word.0 < 256 }
     ensures { result ≡ in_bytes r }
 {
-    ((r.refusal as u32 * 256 + r.case as u32) * 256 + r.bit as u32) * 256 + r.word.0 as u32
+    ((u32::from(r.refusal) * 256 + r.case as u32) * 256 + u32::from(r.bit)) * 256 + r.word.0 as u32
 }
 
 // The unit judge: what stands in a unit, without its data.
+#[tactic(auto, using(crate::proofs::Bytes::small))]
 pub fn hawserfen_judge_unit(unit: &[u16]) -> u32
     ensures { result ≡ in_bytes (judge_reply unit.now) }
 {
@@ -44,6 +47,7 @@ pub fn hawserfen_judge_unit(unit: &[u16]) -> u32
 }
 
 // The unit checker: the data to the room too, repaired where a data bit was hit.
+#[tactic(auto, using(crate::proofs::Bytes::small))]
 pub fn hawserfen_check_unit(unit: &[u16], room: &mut [u16]) -> u32
     ensures value { result ≡ in_bytes (check_reply unit.now (length room.old)) }
     ensures room_after { room.new ≡ check_room unit.now room.old }

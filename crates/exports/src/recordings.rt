@@ -11,6 +11,7 @@ use crate::answer;
 use base::Words;
 
 // The survey: chunks, skipped words, and whether a chunk ends with the recording.
+#[tactic(auto, unfolding(crate::specs::Answer::surveyed))]
 pub fn hawserfen_survey(recording: &[u16], sync: u16) -> u64
     ensures { result ≡ surveyed (survey_reply sync recording.now) }
 {
@@ -19,6 +20,7 @@ pub fn hawserfen_survey(recording: &[u16], sync: u16) -> u64
 }
 
 // The outline: image runs and health runs.
+#[tactic(auto, unfolding(crate::specs::Answer::outlined))]
 pub fn hawserfen_outline(recording: &[u16], sync: u16) -> u64
     ensures { result ≡ outlined (outline_reply sync recording.now) }
 {
@@ -27,13 +29,19 @@ pub fn hawserfen_outline(recording: &[u16], sync: u16) -> u64
 }
 
 // The frame at a place, its data to the room: chunks, data words, and the camera with the flags above it.
+#[tactic(auto, unfolding(crate::specs::Answer::framed))]
 pub fn hawserfen_read_frame(recording: &[u16], sync: u16, place: usize, room: &mut [u16]) -> u64
     ensures value { result ≡ framed (read_reply sync recording.now place (length room.old)) }
     ensures room_after { room.new ≡ read_room sync recording.now place room.old }
 {
     let f = frame_reading::read(recording, sync, Words(place), room);
     let flags = answer::flag(f.complete, 4) + answer::flag(f.end, 8);
-    answer::in_words(f.refusal, f.chunks, f.length.0, f.camera as usize + flags)
+    answer::in_words(
+        f.refusal,
+        f.chunks,
+        f.length.0,
+        usize::from(f.camera) + flags,
+    )
 }
 
 // The reel writer: the reel of the recording to the room.
@@ -45,6 +53,7 @@ pub fn hawserfen_write_reel(recording: &[u16], sync: u16, room: &mut [u16]) -> u
 }
 
 // The reel reader: the recording's words, and the entries.
+#[tactic(auto, unfolding(crate::specs::Answer::reeled))]
 pub fn hawserfen_read_reel(reel: &[u16], sync: u16) -> u64
     ensures { result ≡ reeled (reels.read_reply sync reel.now) }
 {

@@ -8,12 +8,11 @@ use native.Mathlib.Omega.{arith}
 use native.Mathlib.Nat.{add-zero, add_assoc}
 use lib.ListN.{length, get_or, drop}
 use lib.Dec.{eqb, ltb}
+use Rattle.std.specs.Prelude.{Option, Some, None}
 use borrow.Author.Tests.{eq-eqb, ne_eqb, ltb-true, ltb-false}
 use Rattle.base.specs.declared.Words.{Words}
 use Rattle.chunk.specs.declared.Check.{Check}
 use Rattle.chunk.specs.declared.Entry.{Entry}
-use Rattle.chunk.specs.declared.Found.{Found}
-use Rattle.chunk.specs.declared.Found.TheVariants.{Chunk, End}
 use Rattle.chunk.specs.Header.{kind, span, confirmed, at_end, chunk_check, check_at}
 use Rattle.chunk.specs.Reading.{entry, any_end, listed_words, next_from}
 use Rattle.chunk.proofs.Steps.{listed_from, Next, stepped, ended, found_here, confirmed-bounds, confirmed-end}
@@ -37,7 +36,7 @@ module _ (sync : ℕ) (ws : List ℕ) (at : ℕ) where
   next_here e = stepped sync ws at _ _ (found_here sync ws at (confirmed-inside e) e)
 
   -- where none is confirmed, the next listed chunk begins later
-  pub next-later : confirmed sync (drop at ws) ≡ false → (e : Entry) (next : Words) → next_from sync ws at ≡ Found.Chunk e next → eqb e.position.0 at ≡ false
+  pub next-later : confirmed sync (drop at ws) ≡ false → (e : Entry) (next : Words) → next_from sync ws at ≡ Some (e, next) → eqb e.position.0 at ≡ false
   next-later z e next f =
       ne_eqb e.position.0 at
       (λ q. false≢true (sym z ∙ sym (ap (λ (n : ℕ). confirmed sync (drop n ws)) q) ∙ (stepped sync ws at e next f).confirms))
@@ -68,9 +67,9 @@ module _ (sync : ℕ) (ws : List ℕ) (end : ℕ) where
   unfolding joining
   joining-stop all n = by-check (confirmed sync (drop end ws)) refl n
     where
-      by-found : confirmed sync (drop end ws) ≡ false → (f : Found) → next_from sync ws end ≡ f → joining end all (listed_from sync ws end) ≡ []
-      by-found z End f = ap (joining end all) (ended sync ws end f).lists
-      by-found z (Chunk e next) f =
+      by-found : confirmed sync (drop end ws) ≡ false → (f : Option (Entry × Words)) → next_from sync ws end ≡ f → joining end all (listed_from sync ws end) ≡ []
+      by-found z None f = ap (joining end all) (ended sync ws end f).lists
+      by-found z (Some (e, next)) f =
           let t : all && eqb e.position.0 end && continues e.header ≡ false = rw (next-later sync ws end z e next f, and-false all) in
           ap (joining end all) (stepped sync ws end e next f).lists ∙ joining-one end all e (listed_from sync ws next.0) false t
 
@@ -97,9 +96,9 @@ module _ (sync cam : ℕ) (ws : List ℕ) (end : ℕ) where
       none true = refl
       none false = refl
 
-      by-found : confirmed sync (drop end ws) ≡ false → (f : Found) → next_from sync ws end ≡ f → closes ws end cam (listed_from sync ws end) ≡ Check.NotAChunk
-      by-found z End f = ap (closes ws end cam) (ended sync ws end f).lists
-      by-found z (Chunk e next) f = rw ((stepped sync ws end e next f).lists, next-later sync ws end z e next f)
+      by-found : confirmed sync (drop end ws) ≡ false → (f : Option (Entry × Words)) → next_from sync ws end ≡ f → closes ws end cam (listed_from sync ws end) ≡ Check.NotAChunk
+      by-found z None f = ap (closes ws end cam) (ended sync ws end f).lists
+      by-found z (Some (e, next)) f = rw ((stepped sync ws end e next f).lists, next-later sync ws end z e next f)
 
       by-check : (b : Bool) → confirmed sync (drop end ws) ≡ b
           → closes ws end cam (listed_from sync ws end) ≡ cond closed (cond b (chunk_check (at_end (drop end ws))) Check.NotAChunk) Check.NotAChunk

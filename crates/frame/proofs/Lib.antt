@@ -5,3 +5,4 @@ pub mod Stepping
 pub mod Moved
 pub mod Said
 pub mod Ahead
+pub mod Turns

@@ -9,11 +9,11 @@ use lib.ListN.{length, get_or, drop}
 use native.Mathlib.Numerals.{add-one}
 use lib.Seq.{drop-drop, get_or-drop}
 use lib.Dec.{eqb}
+use Rattle.std.specs.Prelude.{Option, Some, None}
 use borrow.Author.Tests.{eqb-true, eqb-false}
 use Rattle.base.proofs.Booleans.{and_left, and_right}
+use Rattle.base.specs.declared.Words.{Words}
 use Rattle.chunk.specs.declared.Entry.{Entry}
-use Rattle.chunk.specs.declared.Found.{Found}
-use Rattle.chunk.specs.declared.Found.TheVariants.{Chunk, End}
 use Rattle.chunk.specs.Header.{size, kind, span, at_end}
 use Rattle.chunk.specs.Reading.{entry, listed, next_from, listed_words}
 use Rattle.chunk.specs.Moved.{moved}
@@ -81,8 +81,8 @@ module _ (sync : ℕ) (ws : List ℕ) where
       ∙ words-moved p (ahead sync v (size h) (span h)) in
       omega (arith, ap listed_words (first-and-ahead sync v s), w)
 
-  -- from p on and from q on they are the same, so a piece says the same of them
-  moves : (p q : ℕ) → pieces_from sync ws p ≡ pieces_from sync ws q → (x : Piece) → Says sync ws q x → Says sync ws p x
+  -- from p on and from q on they are the same, so an answer says the same of them
+  moves : (p q : ℕ) → pieces_from sync ws p ≡ pieces_from sync ws q → (x : Option Piece) → Says sync ws q x → Says sync ws p x
   moves p q e x s = record { none = λ z. e ∙ s.none z; first = λ z. e ∙ s.first z; is_frame = s.is_frame; is_stray = s.is_stray }
 
   module _ (p : ℕ) (e : Entry) (n : Next sync ws p e (past e)) where
@@ -98,7 +98,7 @@ module _ (sync : ℕ) (ws : List ℕ) where
     named : e ≡ entry at (get_or ws (suc at) 0) (at_end (drop at ws))
     named = ap₂ (entry at) n.word (n.mark ∙ sym (at-end sync ws at (past e) (omega (arith, n.ahead, n.within)) (omega (arith, ap size word))))
 
-    at-stray : kind h ≡ 0 → starts h ≡ false → Says sync ws p (stray_there e)
+    at-stray : kind h ≡ 0 → starts h ≡ false → Says sync ws p (Some (stray_there e))
     at-stray k s = record {
       none = λ z. absurd (omega arith);
       first = λ z. pieces-at-stray sync ws p e (past e) n k s ∙ ap (λ (f : Entry). f ∷ pieces_from sync ws (past e)) named;
@@ -118,7 +118,7 @@ module _ (sync : ℕ) (ws : List ℕ) where
         ∙ ap (λ (l : List Entry). e ∷ l) (passed (past e) (full h) (listed_from sync ws (past e)) ∙ ap (frames_and_strays 0 false) r.goes_on)
         ∙ ap (λ (m : ℕ). e ∷ pieces_from sync ws m) (sym g)
 
-    at-frame : starts h ≡ true → Says sync ws p (frame_there sync ws at)
+    at-frame : starts h ≡ true → Says sync ws p (Some (frame_there sync ws at))
     at-frame s = record {
       none = λ z. absurd (omega arith);
       first = λ z. after_frame s ∙ ap (λ (f : Entry). f ∷ pieces_from sync ws (at + frame_words sync (drop at ws))) named;
@@ -126,7 +126,7 @@ module _ (sync : ℕ) (ws : List ℕ) where
       is_stray = λ z. absurd (omega arith);
     }
 
-  at_last : (p : ℕ) → next_from sync ws p ≡ Found.End → Says sync ws p (next_piece sync ws p)
+  at_last : (p : ℕ) → next_from sync ws p ≡ None → Says sync ws p (next_piece sync ws p)
   unfolding frames_and_strays
   at_last p f = subst (Says sync ws p) (sym (no-piece sync ws p f)) record {
     none = λ z. none_left sync ws p f;
@@ -150,9 +150,9 @@ module _ (sync : ℕ) (ws : List ℕ) where
           subst (Says sync ws p) (sym (stray-next sync ws p e (past e) n z y)) (at-stray p e n z y)
 
   by-found : (k p : ℕ) → length ws ≤ p + suc k → ((q : ℕ) → length ws ≤ q + k → Says sync ws q (next_piece sync ws q))
-      → (f : Found) → next_from sync ws p ≡ f → Says sync ws p (next_piece sync ws p)
-  by-found k p h more End f = at_last p f
-  by-found k p h more (Chunk e next) f =
+      → (f : Option (Entry × Words)) → next_from sync ws p ≡ f → Says sync ws p (next_piece sync ws p)
+  by-found k p h more None f = at_last p f
+  by-found k p h more (Some (e, next)) f =
       let s = stepped sync ws p e next f in
       at-chunk p e (subst (Next sync ws p e) s.end s) (more (past e) (omega (arith, s.ahead)))
 

@@ -1,5 +1,6 @@
 -- FORMAT, "Frames": the frames and strays of a recording, in order of position, and the next of them from a place on.
-use Rattle.std.specs.Prelude.{ℕ, ◌+◌, Bool, true, false, ◌&&◌, List, [], ◌∷◌, drop, eqb}
+use Rattle.std.specs.Prelude.{ℕ, ◌+◌, Bool, true, false, ◌&&◌, List, [], ◌∷◌, drop, eqb, Option, Some, None}
+use Rattle.base.specs.declared.Words.{Words}
 use Rattle.chunk.specs.declared.Entry.{Entry}
 use Rattle.chunk.specs.Header.{span}
 use Rattle.chunk.specs.Reading.{entry, listed, reading}
@@ -46,40 +47,45 @@ frame_there sync ws p = Piece.Frame (record { 0 = p }) (described sync (drop p w
 abbrev pub stray_there : Entry → Piece
 stray_there e = Piece.Stray e (record { 0 = e.position.0 + span e.header })
 
+-- the place where it ends, to go on from
+abbrev pub piece_past : Piece → Words
+piece_past (Piece.Frame p d end) = end
+piece_past (Piece.Stray e end) = end
+
 -- the first of these frames and strays
-unfoldable pub first_piece : ℕ → List ℕ → List Entry → Piece
-first_piece sync ws [] = Piece.End
-first_piece sync ws (e ∷ es) = elim (starts e.header) [ true ↦ frame_there sync ws e.position.0 | false ↦ stray_there e ]
+unfoldable pub first_piece : ℕ → List ℕ → List Entry → Option Piece
+first_piece sync ws [] = None
+first_piece sync ws (e ∷ es) = elim (starts e.header) [ true ↦ Some (frame_there sync ws e.position.0) | false ↦ Some (stray_there e) ]
 
 -- the next frame or stray from the place p on
-abbrev pub next_piece : ℕ → List ℕ → ℕ → Piece
+abbrev pub next_piece : ℕ → List ℕ → ℕ → Option Piece
 next_piece sync ws p = first_piece sync ws (pieces_from sync ws p)
 
 -- ---- the cases by number, and their values
 
 -- 0 no more, 1 a frame, 2 a stray
-abbrev pub piece_number : Piece → ℕ
-piece_number Piece.End = 0
-piece_number (Piece.Frame p d end) = 1
-piece_number (Piece.Stray e end) = 2
+abbrev pub piece_number : Option Piece → ℕ
+piece_number None = 0
+piece_number (Some (Piece.Frame p d end)) = 1
+piece_number (Some (Piece.Stray e end)) = 2
 
 -- the place where it stands, what the frame is, what the stray is, and the place where it ends; zeros and false where the case has none
-abbrev pub piece_place : Piece → ℕ
-piece_place Piece.End = 0
-piece_place (Piece.Frame p d end) = p.0
-piece_place (Piece.Stray e end) = e.position.0
+abbrev pub piece_place : Option Piece → ℕ
+piece_place None = 0
+piece_place (Some (Piece.Frame p d end)) = p.0
+piece_place (Some (Piece.Stray e end)) = e.position.0
 
-abbrev pub piece_frame : Piece → Description
-piece_frame Piece.End = description 0 0 false 0 false
-piece_frame (Piece.Frame p d end) = d
-piece_frame (Piece.Stray e end) = description 0 0 false 0 false
+abbrev pub piece_frame : Option Piece → Description
+piece_frame None = description 0 0 false 0 false
+piece_frame (Some (Piece.Frame p d end)) = d
+piece_frame (Some (Piece.Stray e end)) = description 0 0 false 0 false
 
-abbrev pub piece_stray : Piece → Entry
-piece_stray Piece.End = entry 0 0 false
-piece_stray (Piece.Frame p d end) = entry 0 0 false
-piece_stray (Piece.Stray e end) = e
+abbrev pub piece_stray : Option Piece → Entry
+piece_stray None = entry 0 0 false
+piece_stray (Some (Piece.Frame p d end)) = entry 0 0 false
+piece_stray (Some (Piece.Stray e end)) = e
 
-abbrev pub piece_end : Piece → ℕ
-piece_end Piece.End = 0
-piece_end (Piece.Frame p d end) = end.0
-piece_end (Piece.Stray e end) = end.0
+abbrev pub piece_end : Option Piece → ℕ
+piece_end None = 0
+piece_end (Some (Piece.Frame p d end)) = end.0
+piece_end (Some (Piece.Stray e end)) = end.0

@@ -1,6 +1,6 @@
 -- FORMAT, "Frames" and "Listing program": going through a recording with the next frame or stray from a place, and on from the place where it ends, finds the
 -- recording's frames and strays in order of position, and no others; and each is told as what it is.
-use Rattle.std.specs.Prelude.{ℕ, suc, ◌≡◌, true, List, [], ◌∷◌, get_or, drop}
+use Rattle.std.specs.Prelude.{ℕ, suc, ◌≡◌, true, List, [], ◌∷◌, get_or, drop, Option}
 use Rattle.chunk.specs.declared.Entry.{Entry}
 use Rattle.chunk.specs.Header.{at_end}
 use Rattle.chunk.specs.Reading.{entry}
@@ -10,11 +10,11 @@ use Rattle.frame.specs.Described.{described}
 use Rattle.frame.specs.Pieces.{pieces_of, pieces_from, next_piece, piece_number, piece_place, piece_frame, piece_stray, piece_end}
 
 -- the entry of the chunk that a piece begins with: the header word stands after its first word, and the words from there on give the mark
-abbrev pub piece_entry : List ℕ → Piece → Entry
+abbrev pub piece_entry : List ℕ → Option Piece → Entry
 piece_entry ws x = entry (piece_place x) (get_or ws (suc (piece_place x)) 0) (at_end (drop (piece_place x) ws))
 
--- What a piece x says of the frames and strays from the place p on, by its number.
-pub record Says (sync : ℕ) (ws : List ℕ) (p : ℕ) (x : Piece) : Type 0 where
+-- What an answer x says of the frames and strays from the place p on, by its number.
+pub record Says (sync : ℕ) (ws : List ℕ) (p : ℕ) (x : Option Piece) : Type 0 where
   -- 0: there are no more
   pub none : piece_number x ≡ 0 → pieces_from sync ws p ≡ []
   -- else the first of them stands at its place, and the others are those from its end on

@@ -3,6 +3,7 @@
 
 pub mod pieces;
 mod shape;
+pub mod walk;
 
 ghost use Rattle.std.specs.Prelude.{◌≡◌};
 ghost use Rattle.frame.specs.Shape.{starts};
@@ -22,17 +23,16 @@ pub struct Description {
 }
 
 // What comes next in a recording: a frame, complete or cut, with the place where it stands, or a stray continuation, as it is listed, each with the place
-// where it ends, to go on from; or nothing more.
+// where it ends, to go on from.
 #[derive(Clone, Copy)]
 pub enum Piece {
     Frame(Words, Description, Words),
     Stray(Entry, Words),
-    End,
 }
 
 // Whether a chunk with this header word starts a frame.
 pub fn starts(header: u16) -> bool
     ensures { result ≡ starts header }
 {
-    (header::kind_of(header) == 0) & (1 <= header::camera_of(header))
+    header::kind_of(header) == 0 && 1 <= header::camera_of(header)
 }

@@ -27,11 +27,12 @@ fn confirmed(words: &[u16], sync: u16) -> bool
 fn joins(words: &[u16], sync: u16) -> bool
     ensures { result ≡ joins_frame sync words.now }
 {
-    let word = base_room::word_at(words, Words(1));
-    confirmed(words, sync) & ((header::kind_of(word) == 0) & (header::camera_of(word) == 0))
+    let word = base_room::at(words, 1);
+    confirmed(words, sync) && header::kind_of(word) == 0 && header::camera_of(word) == 0
 }
 
-// The chunks of the frame at the front of these words: a chunk that is no multiple of a whole unit is its last.
+// The chunks of the frame at the front of these words: a chunk that is no multiple of a whole unit is its last. It stops at the first place where no chunk
+// joins; a walk over the listed chunks would pass it.
 pub fn measure(words: &[u16], sync: u16) -> Reach
     requires { starts_frame sync words.now ≡ true }
     ensures { result ≡ reach_of sync words.now }
@@ -40,7 +41,7 @@ pub fn measure(words: &[u16], sync: u16) -> Reach
     let mut chunks = 1;
     let mut end = HEADER.0 + size;
     let mut length = parity_units::data_words(Words(size)).0;
-    while (size % UNIT.0 == 0) & joins(&words[end..], sync) {
+    while size % UNIT.0 == 0 && joins(&words[end..], sync) {
         size = header::size_of(words[end + 1]).0;
         chunks += 1;
         end += HEADER.0 + size;
@@ -58,13 +59,11 @@ pub fn measure(words: &[u16], sync: u16) -> Reach
 pub fn closes(words: &[u16], sync: u16, camera: u16) -> Check
     ensures { result ≡ closes_frame sync words.now camera }
 {
-    let health = header::kind_of(base_room::word_at(words, Words(1))) == 1;
-    let observed = base_room::word_at(words, HEADER) as u32 == 3 + camera as u32;
-    if !(health & observed) {
-        return Check::NotAChunk;
+    let health = header::kind_of(base_room::at(words, 1)) == 1;
+    let observed = u32::from(base_room::at(words, HEADER.0)) == 3 + u32::from(camera);
+    if health && observed && packet::sound_at(words, HEADER) {
+        header::check(words, sync, Words(0))
+    } else {
+        Check::NotAChunk
     }
-    if !packet::sound_at(words, HEADER) {
-        return Check::NotAChunk;
-    }
-    header::check(words, sync, Words(0))
 }

@@ -3,6 +3,7 @@ use mathlib.Core.Path.{◌≡◌, refl}
 use mathlib.Core.Bool.{true, false}
 use mathlib.Core.List.{[], ◌∷◌, ◌++◌}
 use native.Mathlib.Omega.{arith}
+use Rattle.std.specs.Prelude.{Some, None}
 use Rattle.base.specs.Refusal.{answer, settled, nothing_there, frame_cut}
 use Rattle.base_room.specs.Room.{put}
 use Rattle.crc.specs.Crc.{crc_bit, crc_step}
@@ -46,15 +47,15 @@ lasts : at_reply sync (image 0x8000) 0 ≡ frame 0 1 1 false 1 true
 unfolding answer at_reply described complete frame_end closing closes frame_chunks frame_of joining units_of parts data_words listed_at left_at listed any_end listed_words at_end confirmed headed ends legal legal_size
 lasts = refl
 
-strays : (next_piece sync (continuation 0x8000) 0 ≡ Piece.Stray (entry 0 0x0009 true) (record { 0 = 11 }))
+strays : (next_piece sync (continuation 0x8000) 0 ≡ Some (Piece.Stray (entry 0 0x0009 true) (record { 0 = 11 })))
     × (at_reply sync (continuation 0x8000) 0 ≡ refused nothing_there)
 unfolding answer at_reply first_piece frames_and_strays described listed_at left_at listed at_end confirmed headed ends legal legal_size
 strays = (refl, refl)
 
-steps : (next_piece sync (image 0x8000 ++ continuation 0x8000) 0 ≡ Piece.Frame (record { 0 = 0 }) (description 1 1 false 1 false) (record { 0 = 11 }))
-    × (next_piece sync (image 0x8000 ++ continuation 0x8000) 11 ≡ Piece.Stray (entry 11 0x0009 true) (record { 0 = 22 }))
-    × (next_piece sync (image 0x8000 ++ continuation 0x8000) 22 ≡ Piece.End)
-    × (next_piece sync (image 0x8000 ++ continuation 0x8000) 1 ≡ Piece.Stray (entry 11 0x0009 true) (record { 0 = 22 }))
+steps : (next_piece sync (image 0x8000 ++ continuation 0x8000) 0 ≡ Some (Piece.Frame (record { 0 = 0 }) (description 1 1 false 1 false) (record { 0 = 11 })))
+    × (next_piece sync (image 0x8000 ++ continuation 0x8000) 11 ≡ Some (Piece.Stray (entry 11 0x0009 true) (record { 0 = 22 })))
+    × (next_piece sync (image 0x8000 ++ continuation 0x8000) 22 ≡ None)
+    × (next_piece sync (image 0x8000 ++ continuation 0x8000) 1 ≡ Some (Piece.Stray (entry 11 0x0009 true) (record { 0 = 22 })))
 unfolding first_piece frames_and_strays described complete frame_end closing closes frame_chunks frame_of joining units_of parts data_words listed any_end listed_words at_end confirmed headed ends legal legal_size sound_packet packet_crc crc_bit crc_step
 steps = (refl, refl, refl, refl)
 

@@ -7,6 +7,7 @@ use native.Mathlib.Nat.{add_assoc}
 use lib.ListN.{length, drop}
 use lib.Seq.{drop-append-add}
 use lib.Dec.{eqb}
+use Rattle.std.specs.Prelude.{Some}
 use Rattle.chunk.specs.declared.Entry.{Entry}
 use Rattle.chunk.specs.Header.{span}
 use Rattle.chunk.specs.Reading.{listed}
@@ -57,10 +58,10 @@ free_moved n es = sym (none-held (n + 0) (moved n es)) ∙ pieces-moved n 0 fals
 -- ---- the next of them, after the words `a`
 
 module _ (sync : ℕ) (a s : List ℕ) where
-  frame-moved : (p : ℕ) → frame_there sync (a ++ s) (length a + p) ≡ moved_piece (length a) (frame_there sync s p)
+  frame-moved : (p : ℕ) → Some (frame_there sync (a ++ s) (length a + p)) ≡ moved_piece (length a) (Some (frame_there sync s p))
   frame-moved p =
       let d : drop (length a + p) (a ++ s) ≡ drop p s = drop-append-add a s p in
-      ap₂ (λ (x : Description) (n : ℕ). Piece.Frame (record { 0 = length a + p }) x (record { 0 = n })) (ap (described sync) d)
+      ap₂ (λ (x : Description) (n : ℕ). Some (Piece.Frame (record { 0 = length a + p }) x (record { 0 = n }))) (ap (described sync) d)
       (ap (λ (v : List ℕ). length a + p + frame_words sync v) d ∙ add_assoc (length a) p (frame_words sync (drop p s)))
 
   first-moved : (es : List Entry) → first_piece sync (a ++ s) (moved (length a) es) ≡ moved_piece (length a) (first_piece sync s es)
@@ -72,7 +73,7 @@ module _ (sync : ℕ) (a s : List ℕ) where
           → first_piece sync (a ++ s) (moved (length a) (e ∷ es)) ≡ moved_piece (length a) (first_piece sync s (e ∷ es))
       by-start true z = rw (z, first_piece) (frame-moved e.position.0)
       by-start false z =
-          rw (z, first_piece) (ap (λ (n : ℕ). Piece.Stray (moved_entry (length a) e) (record { 0 = n }))
+          rw (z, first_piece) (ap (λ (n : ℕ). Some (Piece.Stray (moved_entry (length a) e) (record { 0 = n })))
           (add_assoc (length a) e.position.0 (span e.header)))
 
   pub pieces-from-moved : (p : ℕ) → pieces_from sync (a ++ s) (length a + p) ≡ moved (length a) (pieces_from sync s p)

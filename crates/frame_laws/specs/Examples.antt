@@ -1,5 +1,5 @@
 -- FORMAT, "Frames": worked examples, of frames of one chunk with one unit of one data word, 8000h.
-use Rattle.std.specs.Prelude.{ℕ, ◌≡◌, true, false, List, [], ◌∷◌, ◌++◌, replicate}
+use Rattle.std.specs.Prelude.{ℕ, ◌≡◌, true, false, List, [], ◌∷◌, ◌++◌, replicate, Some, None}
 use Rattle.base.specs.Refusal.{nothing_there, frame_cut}
 use Rattle.chunk.specs.Reading.{entry}
 use Rattle.chunk_laws.specs.Written.{WriterCall}
@@ -52,14 +52,14 @@ pub record Examples : Type 0 where
   pub followed : at_reply sync (image 0x8000 ++ health 4 ++ continuation 0x8000) 0 ≡ frame 0 1 1 true 1 false
   pub last : at_reply sync (image 0x8000) 0 ≡ frame 0 1 1 false 1 true
   -- a continuation that joins no frame is stray, and no frame stands there
-  pub stray : (next_piece sync (continuation 0x8000) 0 ≡ Piece.Stray (entry 0 0x0009 true) (record { 0 = 11 }))
+  pub stray : (next_piece sync (continuation 0x8000) 0 ≡ Some (Piece.Stray (entry 0 0x0009 true) (record { 0 = 11 })))
       × (at_reply sync (continuation 0x8000) 0 ≡ refused nothing_there)
   -- a continuation after a chunk that is no multiple of 264 joins nothing: the frame comes first, then the stray, and no more; from a place inside the
   -- frame the stray comes first
-  pub stepped : (next_piece sync (image 0x8000 ++ continuation 0x8000) 0 ≡ Piece.Frame (record { 0 = 0 }) (description 1 1 false 1 false) (record { 0 = 11 }))
-      × (next_piece sync (image 0x8000 ++ continuation 0x8000) 11 ≡ Piece.Stray (entry 11 0x0009 true) (record { 0 = 22 }))
-      × (next_piece sync (image 0x8000 ++ continuation 0x8000) 22 ≡ Piece.End)
-      × (next_piece sync (image 0x8000 ++ continuation 0x8000) 1 ≡ Piece.Stray (entry 11 0x0009 true) (record { 0 = 22 }))
+  pub stepped : (next_piece sync (image 0x8000 ++ continuation 0x8000) 0 ≡ Some (Piece.Frame (record { 0 = 0 }) (description 1 1 false 1 false) (record { 0 = 11 })))
+      × (next_piece sync (image 0x8000 ++ continuation 0x8000) 11 ≡ Some (Piece.Stray (entry 11 0x0009 true) (record { 0 = 22 })))
+      × (next_piece sync (image 0x8000 ++ continuation 0x8000) 22 ≡ None)
+      × (next_piece sync (image 0x8000 ++ continuation 0x8000) 1 ≡ Some (Piece.Stray (entry 11 0x0009 true) (record { 0 = 22 })))
   -- the complete frame is a written one, and so is the one with the bit that was hit
   pub written : WrittenFrame 1 (image_of 0x8000 ∷ []) health_call ((0x8000 ∷ []) ∷ [])
   pub hurt : WrittenFrame 1 (image_of 0 ∷ []) health_call ((0x8000 ∷ []) ∷ [])

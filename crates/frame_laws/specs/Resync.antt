@@ -1,6 +1,6 @@
 -- FORMAT, "The three demands": demand 3 for frames. After any words, every frame that starts in a listed chunk of a clean stretch is that of the stretch alone,
 -- asked for by its place, and come to by going through the recording.
-use Rattle.std.specs.Prelude.{ℕ, ◌+◌, ◌≡◌, Bool, true, List, ◌∷◌, ◌++◌, length}
+use Rattle.std.specs.Prelude.{ℕ, ◌+◌, ◌≡◌, Bool, true, List, ◌∷◌, ◌++◌, length, Option, Some, None}
 use Rattle.chunk.specs.Reading.{entry, reading}
 use Rattle.chunk_laws.specs.Stretch.{Laid, words, offset}
 use Rattle.chunk_laws.specs.Listed.{Among}
@@ -25,10 +25,10 @@ FramesAsAlone sync a cs =
     → SameFrame sync (a ++ words sync cs) (length a + offset sync before) (words sync cs) (offset sync before)
 
 -- a frame or stray with its places moved on by n words; its mark stays
-abbrev pub moved_piece : ℕ → Piece → Piece
-moved_piece n Piece.End = Piece.End
-moved_piece n (Piece.Frame p d end) = Piece.Frame (record { 0 = n + p.0 }) d (record { 0 = n + end.0 })
-moved_piece n (Piece.Stray e end) = Piece.Stray (moved_entry n e) (record { 0 = n + end.0 })
+abbrev pub moved_piece : ℕ → Option Piece → Option Piece
+moved_piece n None = None
+moved_piece n (Some (Piece.Frame p d end)) = Some (Piece.Frame (record { 0 = n + p.0 }) d (record { 0 = n + end.0 }))
+moved_piece n (Some (Piece.Stray e end)) = Some (Piece.Stray (moved_entry n e) (record { 0 = n + end.0 }))
 
 -- Going through the stretch `cs` after the words `a`, a frame or stray at a time.
 pub record StepsAsAlone (sync : ℕ) (a : List ℕ) (cs : List Laid) : Type 0 where

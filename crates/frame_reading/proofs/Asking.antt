@@ -7,6 +7,7 @@ use native.Mathlib.Omega.{arith}
 use lib.ListN.{length, take, drop, get_or, length-drop}
 use lib.Seq.{get_or-drop}
 use lib.Dec.{ltb, eqb}
+use Rattle.std.specs.Prelude.{Option, Some, None}
 use borrow.Author.Tests.{not-false, lt-ltb, le-ltb, ltb-false}
 use Rattle.base.proofs.Booleans.{and_left, and_right}
 use Rattle.base_room.proofs.RoomLaws.{to_end}
@@ -38,13 +39,13 @@ use Rattle.frame.proofs.Stepping.{frame-next}
 use Rattle.frame_reading.proofs.Rows.{frame-units, frame-within, frame-data}
 
 -- a refusal is no 0
-pub refused-not : (n : ℕ) → 0 < n → (r : Frame) → r ≡ refused n → r.refusal ≡ 0 → ⊥
-refused-not n h r e z = omega (arith, ap (λ (f : Frame). f.refusal) e)
+pub refused_not : (n : ℕ) → 0 < n → (r : Frame) → r ≡ refused n → r.refusal ≡ 0 → ⊥
+refused_not n h r e z = omega (arith, ap (λ (f : Frame). f.refusal) e)
 
 -- ---- the place
 
 -- a frame that starts at the front of words is the next piece
-first_piece : (sync : ℕ) (vs : List ℕ) → starts_frame sync vs ≡ true → next_piece sync vs 0 ≡ frame_there sync vs 0
+first_piece : (sync : ℕ) (vs : List ℕ) → starts_frame sync vs ≡ true → next_piece sync vs 0 ≡ Some (frame_there sync vs 0)
 first_piece sync vs s =
     let h : ℕ = get_or vs 1 0 in
     frame-next sync vs 0 (entry_at vs 0 h) _ (next_here sync vs 0 (and_left (confirmed sync vs) (starts h) s)) (and_right (confirmed sync vs) (starts h) s)
@@ -55,8 +56,8 @@ module _ (sync p : ℕ) (ws : List ℕ) where
   listed-confirmed e = and_right (eqb (left_at sync 0 ws p) 0) (confirmed sync (drop p ws)) e
 
   -- the header word of a listed chunk lies within the words
-  pub listed-inside : listed_at sync ws p ≡ true → p + 1 < length ws
-  listed-inside e =
+  pub listed_inside : listed_at sync ws p ≡ true → p + 1 < length ws
+  listed_inside e =
       let c = listed-confirmed e in
       omega (arith, (confirmed-bounds sync ws p (confirmed-inside sync ws p c) c).0)
 
@@ -64,9 +65,6 @@ module _ (sync p : ℕ) (ws : List ℕ) where
   when_too_long h = simp h
 
   module _ (h : too_long ws ≡ false) where
-    pub not_listed : listed_at sync ws p ≡ false → nothing_there ≡ verdict (at_causes sync ws p)
-    not_listed e = simp (h, e)
-
     pub by-start : listed_at sync ws p ≡ true → (b : Bool) → b ≡ starts (get_or ws (p + 1) 0) → cond (not b) nothing_there 0 ≡ verdict (at_causes sync ws p)
     by-start e b s = simp (h, e, s, get_or-drop p ws 1 0)
 
@@ -90,25 +88,25 @@ module _ (sync p : ℕ) (ws : List ℕ) where
     pub place_inside : p ≤ length ws
     place_inside = omega (arith, longer-than-header sync here starts-here, length-drop p ws)
 
-    module _ (x : Piece) (q : x ≡ next_piece sync part 0) where
-      piece-here : x ≡ frame_there sync here 0
+    module _ (x : Option Piece) (q : x ≡ next_piece sync part 0) where
+      piece-here : x ≡ Some (frame_there sync here 0)
       piece-here = q ∙ ap (λ (vs : List ℕ). next_piece sync vs 0) (to_end p ws) ∙ first_piece sync here starts-here
 
-      pub at-given : (a b : Words) (d : Description) → x ≡ Piece.Frame a d b → told d ≡ at_reply sync ws p
+      pub at_given : (a b : Words) (d : Description) → x ≡ Some (Piece.Frame a d b) → told d ≡ at_reply sync ws p
       unfolding at_reply
-      at-given a b d t =
+      at_given a b d t =
           let e : d ≡ described sync here = cc piece-here in
           ap told e ∙ sym (answer-yes (verdict (at_causes sync ws p)) refused (told (described sync here)) v)
 
-      pub no_stray : (a : Entry) (b : Words) → x ≡ Piece.Stray a b → ⊥
+      pub no_stray : (a : Entry) (b : Words) → x ≡ Some (Piece.Stray a b) → ⊥
       no_stray a b t = let z : ◌≡◌ {A = ℕ} 0 1 = cc piece-here in omega arith
 
-      pub no_end : x ≡ Piece.End → ⊥
+      pub no_end : x ≡ None → ⊥
       no_end t = let z : ◌≡◌ {A = ℕ} 0 1 = cc piece-here in omega arith
 
-  pub at-refused : (n : ℕ) → n ≡ verdict (at_causes sync ws p) → (n ≡ 0 → ⊥) → refused n ≡ at_reply sync ws p
+  pub at_refused : (n : ℕ) → n ≡ verdict (at_causes sync ws p) → (n ≡ 0 → ⊥) → refused n ≡ at_reply sync ws p
   unfolding at_reply
-  at-refused n e h =
+  at_refused n e h =
       ap refused e ∙ sym (answer-no (verdict (at_causes sync ws p)) refused (told (described sync here)) (λ z. h (e ∙ z)))
 
   -- the number in a reply, and the reply where it is 0
@@ -152,9 +150,9 @@ module _ (sync p : ℕ) (ws : List ℕ) where
   cut_or_damaged = (frame_cut, not (complete sync here)) ∷ (wrong_parity, any_damaged (frame_units sync here)) ∷ []
 
   module _ (r : Frame) (e : r ≡ at_reply sync ws p) where
-    pub judge-kept : (r.refusal ≡ 0 → ⊥) → r ≡ judge_reply sync ws p
+    pub judge_kept : (r.refusal ≡ 0 → ⊥) → r ≡ judge_reply sync ws p
     unfolding judge_reply at_reply
-    judge-kept = refusal-kept (at_causes sync ws p) r e cut_or_damaged
+    judge_kept = refusal-kept (at_causes sync ws p) r e cut_or_damaged
 
     module _ (z : r.refusal ≡ 0) where
       at-accepted : verdict (at_causes sync ws p) ≡ 0
@@ -165,11 +163,11 @@ module _ (sync p : ℕ) (ws : List ℕ) where
       unfolding at_reply
       as-described = reply-described (at_causes sync ws p) r e z
 
-      pub judged-inside : p ≤ length ws
-      judged-inside = place_inside at-accepted
+      pub judged_inside : p ≤ length ws
+      judged_inside = place_inside at-accepted
 
-      pub chunks-within : words_along r.chunks part ≤ length part
-      chunks-within = within-here (starts-here at-accepted) r as-described
+      pub chunks_within : words_along r.chunks part ≤ length part
+      chunks_within = within-here (starts-here at-accepted) r as-described
 
       by-cut-and-damage : answer (verdict cut_or_damaged) refused r ≡ judge_reply sync ws p
       unfolding judge_reply at_reply
@@ -184,8 +182,11 @@ module _ (sync p : ℕ) (ws : List ℕ) where
       cut c = ap (λ (b : Bool). answer (verdict ((frame_cut, not b) ∷ (wrong_parity, any_damaged (frame_units sync here)) ∷ [])) refused r) (sym c ∙ complete-here) ∙ by-cut-and-damage
 
       -- what is found of the chunks is found of the frame's units
-      pub harm-here : {h : Harm} → h ≡ harm_to (units_along r.chunks part) → h ≡ harm_to (frame_units sync here)
-      harm-here e = e ∙ ap harm_to (units-here (starts-here at-accepted) r as-described)
+      pub harm_here : {h : Harm} → h ≡ harm_to (units_along r.chunks part) → h ≡ harm_to (frame_units sync here)
+      harm_here e = e ∙ ap harm_to (units-here (starts-here at-accepted) r as-described)
+
+      pub touched_here : (h : Harm) → h ≡ harm_to (units_along r.chunks part) → h.touched ≡ any_touched (frame_units sync here)
+      touched_here h e = ap (λ (x : Harm). x.touched) (harm_here e)
 
       module _ (c : r.complete ≡ true) (b : Bool) (d : b ≡ any_damaged (frame_units sync here)) where
         by-damage : answer (verdict ((frame_cut, not true) ∷ (wrong_parity, b) ∷ [])) refused r ≡ judge_reply sync ws p
@@ -207,9 +208,9 @@ module _ (sync p : ℕ) (ws : List ℕ) where
   too_small m = (no_room, ltb m (frame_length sync here)) ∷ []
 
   module _ (m : ℕ) (r : Frame) (e : r ≡ judge_reply sync ws p) where
-    pub look-kept : (r.refusal ≡ 0 → ⊥) → r ≡ read_reply sync ws p m
+    pub look_kept : (r.refusal ≡ 0 → ⊥) → r ≡ read_reply sync ws p m
     unfolding judge_reply read_reply
-    look-kept = refusal-kept (judge_causes sync ws p) r e (too_small m)
+    look_kept = refusal-kept (judge_causes sync ws p) r e (too_small m)
 
     module _ (z : r.refusal ≡ 0) where
       by-room : answer (verdict ((no_room, ltb m r.length.0) ∷ [])) refused r ≡ read_reply sync ws p m
@@ -250,17 +251,20 @@ module _ (sync p : ℕ) (ws : List ℕ) where
       units-read : units_along r.chunks part ≡ frame_units sync here
       units-read = units-here (starts-here at-accepted-too) r as_read
 
-      pub read-inside : p ≤ length ws
-      read-inside = place_inside at-accepted-too
+      pub read_inside : p ≤ length ws
+      read_inside = place_inside at-accepted-too
 
-      pub read-untouched : (t : Bool) → t ≡ any_touched (frame_units sync here) → t ≡ false → any_touched (units_along r.chunks part) ≡ false
-      read-untouched t e f = ap any_touched units-read ∙ sym e ∙ f
+      pub read_untouched : (t : Bool) → t ≡ any_touched (frame_units sync here) → t ≡ false → any_touched (units_along r.chunks part) ≡ false
+      read_untouched t e f = ap any_touched units-read ∙ sym e ∙ f
 
       -- what is asked for the data
-      pub ready : (words_along r.chunks part ≤ length part) × (data_words (units_along r.chunks part) ≤ length room)
-      ready =
+      pub words_ready : words_along r.chunks part ≤ length part
+      words_ready = within-here (starts-here at-accepted-too) r as_read
+
+      pub room_ready : data_words (units_along r.chunks part) ≤ length room
+      room_ready =
           let n : frame_length sync here ≤ length room = ltb-false (length room) (frame_length sync here) (spared causes refl read-accepted).1.1.1.1.0 in
-          (within-here (starts-here at-accepted-too) r as_read, omega (arith, ap data_words units-read))
+          omega (arith, ap data_words units-read)
 
       pub written : (room₁ : List ℕ) → room₁ ≡ put (given_data (units_along r.chunks part)) 0 room → room₁ ≡ read_room sync ws p room
       unfolding read_room

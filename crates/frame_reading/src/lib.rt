@@ -13,7 +13,7 @@ ghost use Rattle.frame_reading.specs.Replies.{refused, told, at_causes, at_reply
 use base::{Words, limit, refusal};
 use frame::{Description, Piece, pieces};
 
-// The reply of every call here: what is said of a frame; zeros and false where it is refused.
+// The reply of every call here: what is said of a frame; zeros and false where it is refused: `Demand1` says so of it, so it is no Result.
 #[derive(Clone, Copy)]
 pub struct Frame {
     pub refusal: u8,
@@ -24,7 +24,8 @@ pub struct Frame {
     pub end: bool,
 }
 
-// A reply, and whether the data of a unit are not given as they stand: where all are, they are copied without a second look.
+// A reply, and whether the data of a unit are not given as they stand: where all are, they are copied without a second look. A refusal
+// has its number in the reply, so neither of the two says whether there is the other.
 #[derive(Clone, Copy)]
 struct Inspected {
     frame: Frame,
@@ -54,21 +55,23 @@ fn refused(number: u8) -> Frame
 }
 
 // What is said of a frame, as a reply that refuses nothing.
-fn told(said: Description) -> Frame
-    ensures { result ≡ told said }
-{
-    let length = said.length;
-    Frame {
-        refusal: 0,
-        camera: said.camera,
-        chunks: said.chunks,
-        complete: said.complete,
-        length,
-        end: said.end,
+impl From<Description> for Frame {
+    ghost from_gives = { λ said frame. frame ≡ told said };
+
+    fn from(said: Description) -> Frame {
+        Frame {
+            refusal: 0,
+            camera: said.camera,
+            chunks: said.chunks,
+            complete: said.complete,
+            length: said.length,
+            end: said.end,
+        }
     }
 }
 
-// The refusal number for a place of a recording.
+// The refusal number for a place of a recording. It is the answer's (`Demand1`).
+#[tactic(auto, using(crate::proofs::Asking::listed_inside))]
 fn find(recording: &[u16], sync: u16, place: Words) -> u8
     ensures { result ≡ verdict (at_causes sync recording.now place.0) }
 {
@@ -87,6 +90,7 @@ fn find(recording: &[u16], sync: u16, place: Words) -> u8
 }
 
 // What the frame at a place is, complete or cut: the first piece of the words from there on.
+#[tactic(auto, using(crate::proofs::Asking::at_refused, crate::proofs::Asking::at_given, crate::proofs::Asking::no_stray, crate::proofs::Asking::no_end, crate::proofs::Asking::place_inside))]
 pub fn at(recording: &[u16], sync: u16, place: Words) -> Frame
     ensures { result ≡ at_reply sync recording.now place.0 }
 {
@@ -97,13 +101,13 @@ pub fn at(recording: &[u16], sync: u16, place: Words) -> Frame
     let from = place.0;
     let piece = pieces::next(&recording[from..], sync, Words(0));
     match piece {
-        Piece::Frame(_, said, _) => told(said),
-        Piece::Stray(_, _) => refused(refusal::NOTHING_THERE),
-        Piece::End => refused(refusal::NOTHING_THERE),
+        Some(Piece::Frame(_, said, _)) => Frame::from(said),
+        _ => refused(refusal::NOTHING_THERE),
     }
 }
 
 // Whether the frame's data can be had, and whether some of them are touched.
+#[tactic(auto, using(crate::proofs::Asking::judge_kept, crate::proofs::Asking::judged_inside, crate::proofs::Asking::chunks_within, crate::proofs::Asking::cut, crate::proofs::Asking::damaged, crate::proofs::Asking::undamaged, crate::proofs::Asking::harm_here, crate::proofs::Asking::touched_here, crate::proofs::Asking::refused_not))]
 fn inspect(recording: &[u16], sync: u16, place: Words) -> Inspected
     ensures frame_value { result.frame ≡ judge_reply sync recording.now place.0 }
     ensures touched_value { result.frame.refusal ≡ 0 → result.touched ≡ any_touched (frame_units sync (drop place.0 recording.now)) }
@@ -134,6 +138,7 @@ pub fn judge(recording: &[u16], sync: u16, place: Words) -> Frame
 }
 
 // The reader's reply, for a room of so many words.
+#[tactic(auto, using(crate::proofs::Asking::look_kept, crate::proofs::Asking::when_too_small, crate::proofs::Asking::enough))]
 fn look(recording: &[u16], sync: u16, place: Words, room: Words) -> Inspected
     ensures frame_value { result.frame ≡ read_reply sync recording.now place.0 room.0 }
     ensures touched_value { result.frame.refusal ≡ 0 → result.touched ≡ any_touched (frame_units sync (drop place.0 recording.now)) }
@@ -150,6 +155,7 @@ fn look(recording: &[u16], sync: u16, place: Words, room: Words) -> Inspected
 }
 
 // The frame's data to the room.
+#[tactic(auto, using(crate::proofs::Asking::untouched, crate::proofs::Asking::read_inside, crate::proofs::Asking::read_untouched, crate::proofs::Asking::words_ready, crate::proofs::Asking::room_ready, crate::proofs::Asking::written))]
 pub fn read(recording: &[u16], sync: u16, place: Words, room: &mut [u16]) -> Frame
     ensures value { result ≡ read_reply sync recording.now place.0 (length room.old) }
     ensures room_after { room.new ≡ read_room sync recording.now place.0 room.old }

@@ -20,9 +20,9 @@ none-holds true false c = refl
 none-holds false b c = refl
 
 -- the reader refuses exactly what is not sound
-pub sound-verdict : (p : List ℕ) → eqb (verdict (read_causes p)) 0 ≡ sound_packet p
+pub sound_verdict : (p : List ℕ) → eqb (verdict (read_causes p)) 0 ≡ sound_packet p
 unfolding sound_packet
-sound-verdict p = none-holds (eqb (length p) 32) (crc_right p) (permitted_type (type_of_packet p))
+sound_verdict p = none-holds (eqb (length p) 32) (crc_right p) (permitted_type (type_of_packet p))
 
 pub not-long : (p : List ℕ) → (length p ≡ 32 → ⊥) → sound_packet p ≡ false
 unfolding sound_packet
@@ -38,13 +38,10 @@ sound-long p e =
 pub judged-long : (odd : Bool) (p : List ℕ) {v : ℕ} → v ≡ verdict (judge_causes p odd) → v ≡ 0 → length p ≡ 32
 judged-long odd p e z = eqb-true (length p) 32 (not-false (eqb (length p) 32) (spared (judge_causes p odd) refl (sym e ∙ z)).0)
 
-pub packet-long : (p : List ℕ) {v : ℕ} → v ≡ verdict (read_causes p) → v ≡ 0 → length p ≡ 32
-packet-long p e z = judged-long (not (permitted_type (type_of_packet p))) p e z
-
 -- a verdict of 0 is given to what is the reader's own alone
 pub judged-own : (own : Bool) (p : List ℕ) {v : ℕ} → v ≡ verdict (judge_causes p (not own)) → v ≡ 0 → own ≡ true
 judged-own own p e z = not-false own (spared (judge_causes p (not own)) refl (sym e ∙ z)).1.1.0
 
 -- a part that reaches past the end has fewer words
-pub none-there : (ws : List ℕ) (at : ℕ) → length ws < at + 32 → sound_packet (take 32 (drop at ws)) ≡ false
-none-there ws at h = not-long _ (λ e. omega (arith, e, length-take 32 (drop at ws), length-drop at ws))
+pub none_there : (ws : List ℕ) (at : ℕ) → length ws < at + 32 → sound_packet (take 32 (drop at ws)) ≡ false
+none_there ws at h = not-long _ (λ e. omega (arith, e, length-take 32 (drop at ws), length-drop at ws))

@@ -1,10 +1,9 @@
 // The packet: 32 words, of which the first three are type, CRC and time.
 ghost use Rattle.std.specs.Prelude.{◌≡◌, length, drop};
-ghost use Rattle.base.specs.Size.{packet_width};
 ghost use Rattle.base.specs.Refusal.{verdict};
 ghost use Rattle.health.specs.Packet.{packet_at, packet_crc, permitted_type, sound_packet};
 ghost use Rattle.health.specs.Reading.{judge_causes, read_causes, refused, read_reply};
-ghost use Rattle.health.specs.Writing.{writable_type, write_reply, write_room};
+ghost use Rattle.health.specs.Writing.{write_reply, write_room};
 
 use base::size::PACKET;
 use base::{Words, Written, refusal};
@@ -12,7 +11,8 @@ use base::{Words, Written, refusal};
 // the words of a packet after its type, its CRC and its time
 const BODY: Words = Words(29);
 
-// What the packet reader gives of a sound packet: its type word, its time and the 29 words after these.
+// What the packet reader gives of a sound packet: its type word, its time and the 29 words after these. A refusal has its number
+// and zeros: `Demand1` says so of this answer, so it is no Result.
 #[derive(Clone, Copy)]
 pub struct Packet {
     pub refusal: u8,
@@ -25,47 +25,40 @@ pub struct Packet {
 fn permitted(packet_type: u16) -> bool
     ensures { result ≡ permitted_type packet_type }
 {
-    (1 <= packet_type) & (packet_type <= 15) | (packet_type % 16 == 0)
-}
-
-// The types that the writer takes.
-fn writable(packet_type: u16) -> bool
-    ensures { result ≡ writable_type packet_type }
-{
-    permitted(packet_type)
+    (1..=15).contains(&packet_type) || packet_type % 16 == 0
 }
 
 // The CRC over word 0 and words 2 to 31.
-fn packet_crc(packet: &[u16]) -> u16
-    requires { length packet.now ≡ packet_width }
+#[tactic(auto, using(crate::proofs::Parts::crc_parts))]
+fn packet_crc(packet: &[u16; PACKET.0]) -> u16
     ensures { result ≡ packet_crc packet.now }
 {
     crc::words(crc::words(crc::START, &packet[..1]), &packet[2..])
 }
 
-// The verdict on a packet for a reader; `odd` says that its type or a field of it is none of the reader's.
+// The verdict on a packet for a reader, a number for its answer (`Demand1`); `odd` says that its type or a field of it is none of the reader's.
 pub fn judge(packet: &[u16], odd: bool) -> u8
     ensures { result ≡ verdict (judge_causes packet.now odd) }
 {
-    if packet.len() != PACKET.0 {
+    let Some(packet) = packet.as_array() else {
         return refusal::LENGTH;
-    }
-    let right = base_room::word_at(packet, Words(1)) == packet_crc(packet);
+    };
     refusal::cause(
         refusal::CRC,
-        !right,
+        packet[1] != packet_crc(packet),
         refusal::cause(refusal::UNSPECIFIED, odd, 0),
     )
 }
 
-// The packet reader's verdict.
+// The packet reader's verdict, the number of its answer.
 fn read_verdict(packet: &[u16]) -> u8
     ensures { result ≡ verdict (read_causes packet.now) }
 {
-    judge(packet, !permitted(base_room::word_at(packet, Words(0))))
+    judge(packet, !permitted(base_room::at(packet, 0)))
 }
 
 // Whether these words are a sound packet.
+#[tactic(auto, using(crate::proofs::Sound::sound_verdict))]
 fn is_sound(packet: &[u16]) -> bool
     ensures { result ≡ sound_packet packet.now }
 {
@@ -73,30 +66,26 @@ fn is_sound(packet: &[u16]) -> bool
 }
 
 // Whether a sound packet stands at a place of the words.
+#[tactic(auto, using(crate::proofs::Sound::none_there))]
 pub fn sound_at(words: &[u16], at: Words) -> bool
     ensures { result ≡ sound_packet (packet_at words.now at.0) }
 {
-    let from = at.0;
-    let n = words.len();
-    if n < PACKET.0 {
+    let Some(rest) = words.get(at.0..) else {
+        return false;
+    };
+    if rest.len() < PACKET.0 {
         return false;
     }
-    if n - PACKET.0 < from {
-        return false;
-    }
-    let end = from + PACKET.0;
-    is_sound(&words[from..end])
+    is_sound(&rest[..PACKET.0])
 }
 
 // The 29 words after the first three.
-fn words_of(packet: &[u16]) -> [u16; BODY.0]
-    requires { length packet.now ≡ packet_width }
+#[tactic(auto, using(crate::proofs::Parts::body))]
+fn words_of(packet: &[u16; PACKET.0]) -> [u16; BODY.0]
     ensures { result ≡ drop 3 packet.now }
 {
-    let mut words = [0u16; BODY.0];
-    // the end is said, so that the compiler knows how many words are copied
-    let end = PACKET.0;
-    base_room::put_words(&packet[3..end], &mut words, Words(0));
+    let mut words = [0; BODY.0];
+    words.copy_from_slice(&packet[3..PACKET.0]);
     words
 }
 
@@ -112,17 +101,21 @@ fn refused(number: u8) -> Packet
 }
 
 // A packet taken apart.
+#[tactic(auto, unfolding(crate::specs::Reading::read_reply, base::specs::Refusal::answer))]
 pub fn read_packet(packet: &[u16]) -> Packet
     ensures { result ≡ read_reply packet.now }
 {
+    let Some(packet) = packet.as_array() else {
+        return refused(refusal::LENGTH);
+    };
     let verdict = read_verdict(packet);
     if verdict != 0 {
         return refused(verdict);
     }
     Packet {
         refusal: 0,
-        packet_type: base_room::word_at(packet, Words(0)),
-        time: base_room::word_at(packet, Words(2)),
+        packet_type: packet[0],
+        time: packet[2],
         words: words_of(packet),
     }
 }
@@ -134,7 +127,7 @@ fn plan(packet_type: u16, words: Words, room: Words) -> Written
     refusal::settle(
         refusal::cause(
             refusal::ARGUMENT,
-            !writable(packet_type),
+            !permitted(packet_type),
             refusal::cause(
                 refusal::LENGTH,
                 words.0 != BODY.0,
@@ -146,6 +139,7 @@ fn plan(packet_type: u16, words: Words, room: Words) -> Written
 }
 
 // A packet of this type, time and 29 words into lent room.
+#[tactic(auto, unfolding(crate::specs::Writing::write_room, crate::specs::Writing::written_crc, base::specs::Refusal::answer, base::specs::Refusal::settled))]
 pub fn write_packet(packet_type: u16, time: u16, words: &[u16], room: &mut [u16]) -> Written
     ensures value { result ≡ write_reply packet_type (length words.now) (length room.old) }
     ensures room_after { room.new ≡ write_room packet_type time words.now room.old }

@@ -8,11 +8,11 @@ ghost use Rattle.health_checksums.specs.Checksums.{checksums_causes, checksums_r
 use base::Words;
 use health::packet;
 
-// The number that `checksums` has no room for.
+// The number of a refusal, which `checksums` has no room for.
 pub fn checksums_refusal(packet: &[u16]) -> u8
     ensures { result ≡ verdict (checksums_causes packet.now) }
 {
-    packet::judge(packet, base_room::word_at(packet, Words(0)) != 8)
+    packet::judge(packet, base_room::at(packet, 0) != 8)
 }
 
 // The eight pages of the camera whose words begin at a place.
@@ -20,23 +20,23 @@ fn pages(packet: &[u16], at: Words) -> [u16; 8]
     requires { at.0 + 8 ≤ length packet.now }
     ensures { result ≡ take 8 (drop at.0 packet.now) }
 {
-    let mut words = [0u16; 8];
-    let from = at.0;
-    let end = from + 8;
-    base_room::put_words(&packet[from..end], &mut words, Words(0));
+    let mut words = [0; 8];
+    words.copy_from_slice(&packet[at.0..at.0 + 8]);
     words
 }
 
 // The checksums of three cameras with eight pages each, zeros on a refusal.
+#[tactic(auto, using(crate::proofs::Long::accepted_long), unfolding(crate::specs::Checksums::checksums_reply, base::specs::Refusal::answer))]
 pub fn checksums(packet: &[u16]) -> [[u16; 8]; 3]
     ensures { result ≡ checksums_reply packet.now }
 {
     if checksums_refusal(packet) != 0 {
-        let none = [0u16; 8];
-        return [none; 3];
+        return [[0; 8]; 3];
     }
-    let first = pages(packet, Words(3));
-    let second = pages(packet, Words(11));
-    let third = pages(packet, Words(19));
-    [first, second, third]
+    // tried: by `map`, `pages` asks for more than the closure knows, that the packet has 32 words
+    [
+        pages(packet, Words(3)),
+        pages(packet, Words(11)),
+        pages(packet, Words(19)),
+    ]
 }

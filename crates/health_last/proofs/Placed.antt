@@ -1,18 +1,18 @@
 -- The answer about the newest packet: what is chosen of the two places, which of the causes holds, and that a place that is shown has 32 words.
-use Rattle.std.proofs.Common.{◌≡◌, ℕ, ◌+◌, ◌≤◌, Bool, true, false, cond, eqb, ◌⊎◌, List, [], ◌∷◌, length, take, drop, sym, refl, ap, ◌∙◌, ap₂, inl, inr, arith, length-drop, length-take, eq-eqb, ne_eqb, eqb-true}
+use Rattle.std.proofs.Common.{◌≡◌, ℕ, ◌+◌, get_or, lit<, get_or-take, get_or-drop, ◌≤◌, Bool, true, false, cond, eqb, ◌⊎◌, Option, Some, List, [], ◌∷◌, length, take, drop, sym, refl, ap, ◌∙◌, ap₂, inl, inr, arith, length-drop, length-take, eq-eqb, ne_eqb, eqb-true}
 use borrow.Author.Tests.{eqb-false}
 use Rattle.base.proofs.Booleans.{and_left, and_right}
 use Rattle.base.specs.declared.Words.{Words}
 use Rattle.base.specs.Refusal.{Causes, verdict, nothing_there}
 use Rattle.base.proofs.Refused.{verdict-kept, verdict-further, answer-no, answer-yes}
-use Rattle.health.specs.Packet.{type_of_packet, sound_packet}
+use Rattle.health.specs.Packet.{type_of_packet, packet_time, sound_packet}
 use Rattle.health.proofs.Sound.{sound-long}
 use Rattle.health_places.specs.Packets.{science_places, health_places, sound_of}
+use Rattle.health_last.specs.declared.Marked.{Marked}
 use Rattle.health_last.specs.declared.Place.{Place}
-use Rattle.health_last.specs.declared.Sought.{Sought}
-use Rattle.health_last.specs.declared.Sought.TheVariants.{At}
 use Rattle.health_last.specs.Packets.{science_end, found_at, last_where}
 use Rattle.health_last.specs.Last.{in_science, in_health, refused, newer, time_at, shown, newest, argument_causes, last_causes, last_place_reply, part_at, last_packet_reply}
+use Rattle.health_last.specs.Seek.{found_in, mark_in, Answers}
 use Rattle.health_last.proofs.Later.{last-cases, nothing-in-none}
 use Rattle.health_last.proofs.Shown.{shown-accepted, shown-recordings, pick-science, pick-health}
 
@@ -38,20 +38,23 @@ sound-within t ws p e =
     omega (arith, n, length-take 32 (drop p ws), length-drop p ws)
 
 -- so the packet that is found has its 32 words
-pub found_within : (t : ℕ) (ws places : List ℕ) {a : Sought} → a ≡ last_where (sound_of ws t) places → (at : Words) → a ≡ At at → at.0 + 32 ≤ length ws
+pub found_within : (t : ℕ) (ws places : List ℕ) {a : Option Words} → a ≡ last_where (sound_of ws t) places → (at : Words) → a ≡ Some at → at.0 + 32 ≤ length ws
 found_within t ws places ea at e = sound-within t ws at.0 (last-holds (sound_of ws t) places at.0 (sym ea ∙ e))
+
+-- its time is the word two places past its first
+pub time_word : (ws : List ℕ) (p : ℕ) → packet_time (take 32 (drop p ws)) ≡ get_or ws (p + 2) 0
+time_word ws p = get_or-take 32 (drop p ws) 2 0 (lit< tt) ∙ get_or-drop p ws 2 0
 
 -- ---- the place that is chosen
 
 module _ (sync : ℕ) (science : List ℕ) (t : ℕ) (health : List ℕ) where
-  -- by the times of the packets at the places that were found, and with the mark of the science recording's
-  pub compared : {a b : Sought} → a ≡ in_science sync science t → {end : Bool} → end ≡ science_end sync science (in_science sync science t) → b ≡ in_health health t
-      → {x y : ℕ} → x ≡ time_at science a → y ≡ time_at health b → {n : ℕ} → n ≡ newer x y → {s : Place} → s ≡ shown a end b n → s ≡ newest sync science health t
+  -- by what was found in the two recordings, with the mark of the science recording's
+  pub chosen : (m : Option Marked) (b : Option Words) → Answers sync science t m → b ≡ in_health health t
+      → shown (found_in m) (mark_in m) b (newer (time_at science (found_in m)) (time_at health b)) ≡ newest sync science health t
   unfolding newest
-  compared {a} {b} ea {end} em eb ex ey en es =
-      es ∙ ap (shown a end b) (en ∙ ap₂ newer ex ey)
-      ∙ ap (λ (m : Bool). shown a m b (newer (time_at science a) (time_at health b))) (em ∙ ap (science_end sync science) (sym ea))
-      ∙ ap₂ (λ (x y : Sought). shown x (science_end sync science x) y (newer (time_at science x) (time_at health y))) ea eb
+  chosen m b k eb =
+      ap (λ (x : Bool). shown (found_in m) x b (newer (time_at science (found_in m)) (time_at health b))) k.1
+      ∙ ap₂ (λ (x y : Option Words). shown x (science_end sync science (in_science sync science t)) y (newer (time_at science x) (time_at health y))) k.0 eb
 
   pub newest-accepted : (newest sync science health t).refusal ≡ 0
   unfolding newest
@@ -108,17 +111,17 @@ module _ (sync : ℕ) (science : List ℕ) (t : ℕ) (health : List ℕ) {s : Pl
       by_cases false eb = absurd (h (ap (λ (x : Place). x.recording) (e ∙ answer-no _ _ _ (eqb-false _ _ eb))))
 
   -- what is shown of a recording is the last there
-  pub of-science : s.recording ≡ 1 → in_science sync science t ≡ At s.at
+  pub of-science : s.recording ≡ 1 → in_science sync science t ≡ Some s.at
   unfolding newest
   of-science h =
       let k = as-shown (λ z. omega (arith, h, z)) in
-      pick-science (in_science sync science t) _ (in_health health t) _ (sym (ap (λ (x : Place). x.recording) k) ∙ h) ∙ ap (λ (x : Place). At x.at) (sym k)
+      pick-science (in_science sync science t) _ (in_health health t) _ (sym (ap (λ (x : Place). x.recording) k) ∙ h) ∙ ap (λ (x : Place). Some x.at) (sym k)
 
-  pub of-health : s.recording ≡ 2 → in_health health t ≡ At s.at
+  pub of-health : s.recording ≡ 2 → in_health health t ≡ Some s.at
   unfolding newest
   of-health h =
       let k = as-shown (λ z. omega (arith, h, z)) in
-      pick-health (in_science sync science t) _ (in_health health t) _ (sym (ap (λ (x : Place). x.recording) k) ∙ h) ∙ ap (λ (x : Place). At x.at) (sym k)
+      pick-health (in_science sync science t) _ (in_health health t) _ (sym (ap (λ (x : Place). x.recording) k) ∙ h) ∙ ap (λ (x : Place). Some x.at) (sym k)
 
   pub science-within : s.recording ≡ 1 → s.at.0 + 32 ≤ length science
   science-within h = found_within t science (science_places sync science) refl s.at (of-science h)

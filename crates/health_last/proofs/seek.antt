@@ -1,1 +1,2 @@
+mod Folding
 mod Seeking

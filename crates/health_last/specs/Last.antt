@@ -1,19 +1,20 @@
 -- FORMAT, "Health packets": the newest packet of a type. Of the last sound packets of the two recordings the newer is shown.
-use Rattle.std.specs.Prelude.{ℕ, ◌+◌, ◌-◌, ◌%◌, Bool, false, cond, not, ◌&&◌, ◌||◌, List, [], ◌∷◌, ◌++◌, length, ◌==◌, nat_le}
+use Rattle.std.specs.Prelude.{ℕ, ◌+◌, ◌-◌, ◌%◌, Bool, false, cond, not, ◌&&◌, ◌||◌, Option, Some, None, List, [], ◌∷◌, ◌++◌, length, ◌==◌, nat_le}
+use Rattle.base.specs.declared.Words.{Words}
 use Rattle.base.specs.Size.{packet_width}
 use Rattle.base.specs.Limit.{too_long, health_limit}
 use Rattle.base.specs.Refusal.{Causes, verdict, answer, wrong_argument, wrong_length, nothing_there}
 use Rattle.health.specs.Packet.{packet_at, packet_time}
 use Rattle.health_places.specs.Packets.{science_places, health_places, sound_of}
-use Rattle.health_last.specs.declared.Sought.{Sought}
-use Rattle.health_last.specs.declared.Sought.TheVariants.{At, Nowhere}
+use Rattle.health_last.specs.declared.Recording.{Recording}
+use Rattle.health_last.specs.declared.Recording.TheVariants.{Science, Health}
 use Rattle.health_last.specs.declared.Place.{Place}
 use Rattle.health_last.specs.Packets.{science_end, last_where}
 
-abbrev pub in_science : ℕ → List ℕ → ℕ → Sought
+abbrev pub in_science : ℕ → List ℕ → ℕ → Option Words
 in_science sync science t = last_where (sound_of science t) (science_places sync science)
 
-abbrev pub in_health : List ℕ → ℕ → Sought
+abbrev pub in_health : List ℕ → ℕ → Option Words
 in_health health t = last_where (sound_of health t) (health_places health)
 
 abbrev pub place : ℕ → ℕ → ℕ → Bool → Place
@@ -32,22 +33,28 @@ ahead s h = (h + (65536 - s)) % 65536
 unfoldable pub newer : ℕ → ℕ → ℕ
 newer s h = cond (ahead s h == 32768) 0 (cond (nat_le 1 (ahead s h) && nat_le (ahead s h) 32767) 2 1)
 
+-- the numbers of the recordings, 0 for neither
+abbrev pub recording_number : Option Recording → ℕ
+recording_number None = 0
+recording_number (Some Science) = 1
+recording_number (Some Health) = 2
+
 -- the time of the packet that was found; 0 where none was, which decides nothing
-unfoldable pub time_at : List ℕ → Sought → ℕ
-time_at ws (At p) = packet_time (packet_at ws p.0)
-time_at ws Nowhere = 0
+unfoldable pub time_at : List ℕ → Option Words → ℕ
+time_at ws (Some p) = packet_time (packet_at ws p.0)
+time_at ws None = 0
 
 -- the place of what was found in a recording, with its mark; no recording and no mark where nothing was
-unfoldable pub place_in : ℕ → Sought → Bool → Place
-place_in recording (At p) end = place 0 recording p.0 end
-place_in recording Nowhere end = place 0 0 0 false
+unfoldable pub place_in : ℕ → Option Words → Bool → Place
+place_in recording (Some p) end = place 0 recording p.0 end
+place_in recording None end = place 0 0 0 false
 
 -- The rule for which packet is shown. Where both recordings have one it is that of recording n, the newer, and none where n is 0. Where one has none it is
 -- the other's, whatever its time. A packet of the science recording has the mark `end`, one of the health recording, which has no chunks, has none.
-unfoldable pub shown : Sought → Bool → Sought → ℕ → Place
-shown (At p) end (At q) n = cond (n == 1) (place_in 1 (At p) end) (cond (n == 2) (place_in 2 (At q) false) (place 0 0 0 false))
-shown (At p) end Nowhere n = place_in 1 (At p) end
-shown Nowhere end s n = place_in 2 s false
+unfoldable pub shown : Option Words → Bool → Option Words → ℕ → Place
+shown (Some p) end (Some q) n = cond (n == 1) (place_in 1 (Some p) end) (cond (n == 2) (place_in 2 (Some q) false) (place 0 0 0 false))
+shown (Some p) end None n = place_in 1 (Some p) end
+shown None end s n = place_in 2 s false
 
 -- what is shown: the last packet of each recording, by place, is found, and these two are compared
 unfoldable pub newest : ℕ → List ℕ → List ℕ → ℕ → Place

@@ -3,54 +3,54 @@ ghost use Rattle.std.specs.Prelude.{◌≡◌, ◌+◌, ◌*◌, ◌<◌, ◌≤
 ghost use Rattle.base.specs.Size.{packet_width};
 ghost use Rattle.chunk.specs.Header.{span};
 ghost use Rattle.health_places.specs.Packets.{packet_places, chunk_places};
-ghost use Rattle.health_last.specs.Packets.{science_end, last_where};
+ghost use Rattle.health_last.specs.Packets.{last_where};
 ghost use Rattle.health_last.specs.Seek.{wanted, Answers, Decided};
-ghost use Rattle.health_last.specs.Last.{in_science};
 
-use crate::{Marked, Sought};
+use crate::Marked;
 use base::Words;
 use base::size::PACKET;
-use chunk::{Entry, Found, header, search};
+use chunk::{Entry, header, search};
 use health::packet;
 
 // Whether a packet of the type stands at a place: any, or a sound one. The CRC is computed only where the type is the asked one.
+// The type and `any` stay two parameters: a struct of them would be built at each of the four calls, and passed on twice.
+#[tactic(auto, using(crate::proofs::seek::Seeking::wanted_at))]
 fn is_of(words: &[u16], packet_type: u16, any: bool, at: Words) -> bool
     requires { at.0 < length words.now }
     ensures { result ≡ wanted words.now packet_type any at.0 }
 {
-    let place = at.0;
-    if words[place] != packet_type {
-        return false;
-    }
-    if any {
-        return true;
-    }
-    packet::sound_at(words, at)
+    words[at.0] == packet_type && (any || packet::sound_at(words, at))
 }
 
-// The last packet of the type, any or sound, among `count` packets back to back, from the back.
-pub fn in_row(words: &[u16], packet_type: u16, any: bool, from: Words, count: usize) -> Sought
+// The last packet of the type, any or sound, among `count` packets back to back, from the back. By place: a place is the answer and what `is_of` judges, and
+// over the packets themselves (`as_chunks`) their number would be made a place again.
+pub fn in_row(
+    words: &[u16],
+    packet_type: u16,
+    any: bool,
+    from: Words,
+    count: usize,
+) -> Option<Words>
     requires { from.0 + packet_width * count ≤ length words.now }
     ensures { result ≡ last_where (wanted words.now packet_type any) (packet_places count from.0) }
 {
-    let mut left = count;
-    while 0 < left {
-        left -= 1;
-        let at = Words(from.0 + PACKET.0 * left);
+    for k in (0..count).rev() {
+        let at = Words(from.0 + PACKET.0 * k);
         if is_of(words, packet_type, any, at) {
-            return Sought::At(at);
+            return Some(at);
         }
     }
-    Sought::Nowhere
+    None
 }
 
 // The last packet of the type, any or sound, in a chunk.
-fn in_chunk(words: &[u16], packet_type: u16, any: bool, chunk: Entry) -> Sought
+#[tactic(auto, using(crate::proofs::seek::Seeking::chunk_row))]
+fn in_chunk(words: &[u16], packet_type: u16, any: bool, chunk: Entry) -> Option<Words>
     requires { chunk.position.0 + span chunk.header ≤ length words.now }
     ensures { result ≡ last_where (wanted words.now packet_type any) (chunk_places chunk) }
 {
     if header::kind_of(chunk.header) != 1 {
-        return Sought::Nowhere;
+        return None;
     }
     in_row(
         words,
@@ -62,69 +62,40 @@ fn in_chunk(words: &[u16], packet_type: u16, any: bool, chunk: Entry) -> Sought
 }
 
 // The last sound packet of the type in the listed health chunks, with the mark of its chunk: every chunk's last is looked for.
-fn in_chunks(words: &[u16], sync: u16, packet_type: u16) -> Marked
+fn in_chunks(words: &[u16], sync: u16, packet_type: u16) -> Option<Marked>
     ensures { Answers sync words.now packet_type result }
 {
-    let mut last = Marked {
-        found: Sought::Nowhere,
-        end: false,
-    };
-    let mut at = Words(0);
-    loop {
-        let found = search::next(words, sync, at);
-        let Found::Chunk(chunk, next) = found else {
-            return last;
-        };
-        let here = in_chunk(words, packet_type, false, chunk);
-        let marked = Marked {
-            found: here,
-            end: chunk.end,
-        };
-        if let Sought::At(_) = here {
-            last = marked;
+    search::chunks(words, sync).fold(None, |last, (chunk, _)| {
+        match in_chunk(words, packet_type, false, chunk) {
+            Some(at) => Some(Marked { at, end: chunk.end }),
+            None => last,
         }
-        at = next;
-    }
+    })
 }
 
 // The last listed chunk that holds a packet of the type, sound or not. No CRC is computed.
-fn last_holder(words: &[u16], sync: u16, packet_type: u16) -> Found
+fn last_holder(words: &[u16], sync: u16, packet_type: u16) -> Option<Entry>
     ensures { Decided sync words.now packet_type result }
 {
-    let mut last = Found::End;
-    let mut at = Words(0);
-    loop {
-        let found = search::next(words, sync, at);
-        let Found::Chunk(chunk, next) = found else {
-            return last;
-        };
-        let here = in_chunk(words, packet_type, true, chunk);
-        if let Sought::At(_) = here {
-            last = found;
+    search::chunks(words, sync).fold(None, |last, (chunk, _)| {
+        match in_chunk(words, packet_type, true, chunk) {
+            Some(_) => Some(chunk),
+            None => last,
         }
-        at = next;
-    }
+    })
 }
 
 // The last sound packet of the type in the listed health chunks, with the mark of its chunk. It stands in the last chunk that holds
 // the type, unless all of the type there are damaged: only then is every chunk looked at.
-pub fn in_science(words: &[u16], sync: u16, packet_type: u16) -> Marked
-    ensures found_value { result.found ≡ in_science sync words.now packet_type }
-    ensures end_value { result.end ≡ science_end sync words.now (in_science sync words.now packet_type) }
+pub fn in_science(words: &[u16], sync: u16, packet_type: u16) -> Option<Marked>
+    ensures { Answers sync words.now packet_type result }
 {
-    let last = last_holder(words, sync, packet_type);
-    let Found::Chunk(holder, _) = last else {
-        return Marked {
-            found: Sought::Nowhere,
-            end: false,
-        };
-    };
-    let found = in_chunk(words, packet_type, false, holder);
-    match found {
-        Sought::At(_) => Marked {
-            found,
+    let holder = last_holder(words, sync, packet_type)?;
+    match in_chunk(words, packet_type, false, holder) {
+        Some(at) => Some(Marked {
+            at,
             end: holder.end,
-        },
-        Sought::Nowhere => in_chunks(words, sync, packet_type),
+        }),
+        None => in_chunks(words, sync, packet_type),
     }
 }

@@ -14,7 +14,7 @@ use Rattle.base_room.proofs.RoomLaws.{put-fits}
 use Rattle.health.specs.Packet.{type_of_packet, packet_time, packet_words, packet_crc, crc_right, permitted_type, sound_packet}
 use Rattle.health.specs.Reading.{read_causes, packet_of, refused, read_reply}
 use Rattle.health.specs.Writing.{writable_type, written_crc, packet_from, write_causes, write_verdict, write_room}
-use Rattle.health.proofs.Sound.{sound-verdict}
+use Rattle.health.proofs.Sound.{sound_verdict}
 use Rattle.health_laws.specs.Written.{Accepted, written, WrittenIsRead, SoundIsWritten}
 
 module _ (t s : ℕ) (ws : List ℕ) (takes : writable_type t ≡ true) (long : length ws ≡ 29) where
@@ -54,7 +54,7 @@ unfolding read_reply
 written-is-read t s ws room a =
     let p = packet_from t s ws in
     let sound = written-is-sound t s ws (accepted-parts t s ws room a).0 (accepted-parts t s ws room a).1 in
-    ap read_reply (written-packet t s ws room a) ∙ answer-yes (verdict (read_causes p)) _ _ (eqb-true _ 0 (sound-verdict p ∙ sound))
+    ap read_reply (written-packet t s ws room a) ∙ answer-yes (verdict (read_causes p)) _ _ (eqb-true _ 0 (sound_verdict p ∙ sound))
 
 -- ---- a packet that the reader accepts
 

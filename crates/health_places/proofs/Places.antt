@@ -14,7 +14,7 @@ use Rattle.health.specs.Packet.{type_of_packet, sound_packet}
 use Rattle.health_places.specs.Packets.{packet_places, chunk_places, sound_of}
 
 -- the type of the packet at a place is the word there
-type_at : (ws : List ℕ) (p : ℕ) → type_of_packet (take 32 (drop p ws)) ≡ get_or ws p 0
+pub type_at : (ws : List ℕ) (p : ℕ) → type_of_packet (take 32 (drop p ws)) ≡ get_or ws p 0
 type_at ws p = get_or-take 32 (drop p ws) 0 0 (lit< tt) ∙ get_or-drop p ws 0 0 ∙ ap (λ (n : ℕ). get_or ws n 0) (add-zero p)
 
 module _ (t : ℕ) (ws : List ℕ) (p : ℕ) where

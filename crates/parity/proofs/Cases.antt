@@ -1,5 +1,4 @@
--- The five cases: each by its test after those before it; what they find of the rows and columns that differ is what is found of the unit; and a data bit
--- that is found is one of the data.
+-- The five cases: what they find of the rows and columns that differ is what is found of the unit; and a data bit that is found is one of the data.
 use mathlib.Core.Path.{◌≡◌, refl, sym, ap₂, ◌∙◌}
 use mathlib.Core.Bool.{Bool, true, false, cond, ◌&&◌}
 use mathlib.Core.List.{List}
@@ -11,44 +10,14 @@ use lib.Bits.{xor_lt}
 use lib.ListN.{length, drop}
 use borrow.Author.Tests.{ltb-true}
 use Rattle.base.specs.Xor.{◌xor◌}
-use Rattle.base.specs.Refusal.{wrong_parity}
 use Rattle.base.proofs.Booleans.{and_right}
 use Rattle.parity_rows.specs.declared.Sums.{Sums}
 use Rattle.parity_rows.specs.Parity.{number, bit_from, row_parity, column_parity, parities, stated_parity}
 use Rattle.parity_rows.proofs.Folds.{number-xor}
 use Rattle.parity_rows.proofs.Words.{from-lt}
 use Rattle.parity_rows.proofs.ByRows.{row_lt, column-lt}
-use Rattle.parity.specs.declared.Judged.{Judged}
-use Rattle.parity.specs.Unit.{Finding, sound, parity_bit, data_bit, neither, sum_all, first_of, row_differs, column_differs, five_cases, finding, reply, refused, named}
+use Rattle.parity.specs.Unit.{Finding, sound, parity_bit, data_bit, neither, sum_all, first_of, row_differs, column_differs, five_cases, finding}
 use Rattle.parity.proofs.Counted.{ones-sum, leading-first}
-
-module _ (R C row column k : ℕ) where
-  abbrev answered : Judged
-  answered = named (five_cases R C row column k) k
-
-  pub case-sound : (eqb R 0 && eqb C 0) ≡ true → reply 0 0 0 0 k ≡ answered
-  unfolding five_cases
-  case-sound p = simp p
-
-  module _ (p : (eqb R 0 && eqb C 0) ≡ false) (b : ℕ) where
-    pub case_row : (eqb R 1 && eqb C 0) ≡ true → b ≡ 15 - row % 16 → reply 0 1 (row / 16) b k ≡ answered
-    unfolding five_cases
-    case_row q e = simp (p, q, e)
-
-    module _ (q : (eqb R 1 && eqb C 0) ≡ false) where
-      pub case-column : (eqb R 0 && eqb C 1) ≡ true → b ≡ 15 - column % 16 → reply 0 1 (4 + column / 16) b k ≡ answered
-      unfolding five_cases
-      case-column s e = simp (p, q, s, e)
-
-      module _ (s : (eqb R 0 && eqb C 1) ≡ false) where
-        pub case-data : (eqb R 1 && eqb C 1 && ltb (4 * row + column / 16) k) ≡ true → b ≡ 15 - column % 16
-            → reply 0 2 (4 * row + column / 16) b k ≡ answered
-        unfolding five_cases
-        case-data t e = simp (p, q, s, t, e)
-
-        pub case-neither : (eqb R 1 && eqb C 1 && ltb (4 * row + column / 16) k) ≡ false → refused wrong_parity ≡ answered
-        unfolding five_cases
-        case-neither t = simp (p, q, s, t)
 
 -- ---- the rows and the columns that differ, digit by digit
 

@@ -8,7 +8,7 @@ use native.Mathlib.Omega.{arith}
 use lib.Dec.{leb, ltb}
 use lib.Count.{ones, count_leading_zeros}
 use lib.ListN.{length, drop}
-use borrow.Author.Tests.{leb-true, leb-false, lt-leb, le-ltb, lt-ltb}
+use borrow.Author.Tests.{leb-true, le-leb, lt-leb, le-ltb, lt-ltb}
 use Rattle.base.specs.Xor.{◌xor◌}
 use Rattle.base.proofs.Refused.{spared, verdict-kept, verdict-further, answer-no, answer-yes, answer-number}
 use Rattle.base.specs.Refusal.{Causes, answer, wrong_length, wrong_parity, no_room}
@@ -26,15 +26,6 @@ between a b n e = by_tests (leb a n) (leb n b) refl refl e
     by_tests true true p q h = (leb-true a n p, leb-true n b q)
     by_tests true false p q h = absurd (false≢true (sym h))
     by_tests false t p q h = absurd (false≢true (sym h))
-
--- and one outside them
-pub outside : (a b n : ℕ) → not (leb a n && leb n b) ≡ true → (n < a) ⊎ (b < n)
-outside a b n e = by_tests (leb a n) (leb n b) refl refl e
-  where
-    by_tests : (s t : Bool) → leb a n ≡ s → leb n b ≡ t → not (s && t) ≡ true → (n < a) ⊎ (b < n)
-    by_tests false t p q h = inl (leb-false a n p)
-    by_tests true false p q h = inr (leb-false n b q)
-    by_tests true true p q h = absurd (false≢true h)
 
 -- ---- the judge
 
@@ -61,10 +52,11 @@ judgement u h = simp h (by-finding (finding u))
     by-finding neither = refl
 
 -- from the parity that the unit states and that of its data
-pub judged-by : (u : List ℕ) (s p : Sums) (r : Judged) → not_unit (length u) ≡ false → s ≡ stated_parity u → p ≡ parities (drop 8 u)
+pub judged-by : (u : List ℕ) (s p : Sums) (r : Judged) → 9 ≤ length u → length u ≤ 264 → s ≡ stated_parity u → p ≡ parities (drop 8 u)
     → r ≡ named (five_cases (ones (s.rows xor p.rows)) (ones (s.columns xor p.columns)) (count_leading_zeros 64 (s.rows xor p.rows)) (count_leading_zeros 64 (s.columns xor p.columns)) (length u - 8)) (length u - 8)
     → r ≡ judge_reply u
-judged-by u s p r h e f q = q ∙ ap (λ (x : Finding). named x (length u - 8)) (cases-find u s p e f) ∙ judgement u h
+judged-by u s p r least most e f q =
+    q ∙ ap (λ (x : Finding). named x (length u - 8)) (cases-find u s p e f) ∙ judgement u (rw (le-leb 9 (length u) least, le-leb (length u) 264 most))
 
 -- ---- the number in a reply
 

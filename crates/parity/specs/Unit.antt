@@ -5,6 +5,8 @@ use Rattle.base.specs.Size.{parity_width, data_width, unit_width}
 use Rattle.base_room.specs.Room.{put}
 use Rattle.base.specs.Refusal.{Causes, verdict, answer, settled, wrong_length, wrong_parity, no_room}
 use Rattle.base.specs.declared.Written.{Written}
+use Rattle.parity.specs.declared.Case.{Case}
+use Rattle.parity.specs.declared.Case.TheVariants.{Sound, ParityBit, DataBit}
 use Rattle.parity.specs.declared.Judged.{Judged}
 use Rattle.parity_rows.specs.Parity.{bit_from, row_parity, column_parity, parity_words}
 
@@ -93,18 +95,23 @@ judge_causes u = (wrong_length, not_unit (length u)) ∷ (wrong_parity, is_neith
 unfoldable pub judge_verdict : List ℕ → ℕ
 judge_verdict u = verdict (judge_causes u)
 
-abbrev pub reply : ℕ → ℕ → ℕ → ℕ → ℕ → Judged
+-- the number of a case for C code
+abbrev pub case_number : Case → ℕ
+case_number Sound = 0
+case_number ParityBit = 1
+case_number DataBit = 2
+
+abbrev pub reply : ℕ → Case → ℕ → ℕ → ℕ → Judged
 reply v s w b n = record { refusal = v; case = s; word = record { 0 = w }; bit = b; length = record { 0 = n } }
 
 abbrev pub refused : ℕ → Judged
-refused v = reply v 0 0 0 0
+refused v = reply v Sound 0 0 0
 
--- what is answered of a finding: the case (0 sound, 1 a parity bit, 2 a data bit), the word and the bit that was hit, zeros if sound, and the number k
--- of data words; all else is refused
+-- what is answered of a finding: the case, the word and the bit that was hit, zeros if sound, and the number k of data words; all else is refused
 abbrev pub named : Finding → ℕ → Judged
-named sound k = reply 0 0 0 0 k
-named (parity_bit w b) k = reply 0 1 w b k
-named (data_bit w b) k = reply 0 2 w b k
+named sound k = reply 0 Sound 0 0 k
+named (parity_bit w b) k = reply 0 ParityBit w b k
+named (data_bit w b) k = reply 0 DataBit w b k
 named neither k = refused wrong_parity
 
 unfoldable pub judge_reply : List ℕ → Judged

@@ -7,12 +7,20 @@ ghost use Rattle.parity.specs.Unit.{reply, refused, named, five_cases, judge_rep
 use base::size::{DATA, PARITY, UNIT};
 use base::{Words, Written, refusal};
 
-// What is found of a unit: the case (0 sound, 1 a parity bit was hit, 2 a data bit was hit and is repaired), the parity or data
-// word and the bit that was hit, zeros if sound, and the number of data words.
+// What was hit in a unit: nothing, a parity bit, or a data bit, which is repaired. C code is given the number of the case.
+#[derive(Clone, Copy, PartialEq, Eq)]
+pub enum Case {
+    Sound,
+    ParityBit,
+    DataBit,
+}
+
+// What is found of a unit: the case, the parity or data word and the bit that was hit, zeros if sound, and the number of data words.
+// A refusal has its number and zeros, and the case of a sound unit: `Demand1` says so of this answer, so it is no Result.
 #[derive(Clone, Copy)]
 pub struct Judged {
     pub refusal: u8,
-    pub case: u8,
+    pub case: Case,
     pub word: Words,
     pub bit: u8,
     pub length: Words,
@@ -23,14 +31,14 @@ fn refused(number: u8) -> Judged
 {
     Judged {
         refusal: number,
-        case: 0,
+        case: Case::Sound,
         word: Words(0),
         bit: 0,
         length: Words(0),
     }
 }
 
-fn accept(case: u8, word: Words, bit: u8, k: Words) -> Judged
+fn accept(case: Case, word: Words, bit: u8, k: Words) -> Judged
     ensures { result ≡ reply 0 case word.0 bit k.0 }
 {
     Judged {
@@ -42,7 +50,7 @@ fn accept(case: u8, word: Words, bit: u8, k: Words) -> Judged
     }
 }
 
-// A row's or a column's bit in its parity word, and a column's in its data words.
+// A row's or a column's bit in its parity word, and a column's in its data words. It is below 16, so `as` loses nothing.
 fn bit_of(place: usize) -> u8
     ensures { result ≡ 15 - place % 16 }
 {
@@ -50,47 +58,40 @@ fn bit_of(place: usize) -> u8
 }
 
 // The five cases, where r rows and c columns differ, `row` and `column` first, in a unit with k data words.
+#[tactic(auto, unfolding(crate::specs::Unit::five_cases))]
 fn five_cases(r: u32, c: u32, row: usize, column: usize, k: Words) -> Judged
     requires { (row ≤ 64) × (column ≤ 64) }
     ensures { result ≡ named (five_cases r c row column k.0) k.0 }
 {
     let word = 4 * row + column / 16;
-    if (r == 0) & (c == 0) {
-        return accept(0, Words(0), 0, k);
+    match (r, c) {
+        (0, 0) => accept(Case::Sound, Words(0), 0, k),
+        (1, 0) => accept(Case::ParityBit, Words(row / 16), bit_of(row), k),
+        (0, 1) => accept(Case::ParityBit, Words(4 + column / 16), bit_of(column), k),
+        (1, 1) if word < k.0 => accept(Case::DataBit, Words(word), bit_of(column), k),
+        _ => refused(refusal::PARITY),
     }
-    if (r == 1) & (c == 0) {
-        return accept(1, Words(row / 16), bit_of(row), k);
-    }
-    if (r == 0) & (c == 1) {
-        return accept(1, Words(4 + column / 16), bit_of(column), k);
-    }
-    if (r == 1) & (c == 1) & (word < k.0) {
-        return accept(2, Words(word), bit_of(column), k);
-    }
-    refused(refusal::PARITY)
 }
 
-// What stands in a unit, without its data.
+// What stands in a unit, without its data. The library has no `From` of a `u32` for `usize`, so `as` stands there.
 #[inline(always)]
 pub fn judge_unit(unit: &[u16]) -> Judged
     ensures { result ≡ judge_reply unit.now }
 {
     let n = unit.len();
-    let first = PARITY.0;
-    if !((first + 1 <= n) & (n <= UNIT.0)) {
+    if n <= PARITY.0 || UNIT.0 < n {
         return refused(refusal::LENGTH);
     }
     let stated = parity_rows::stated(unit);
-    let found = parity_rows::parity(&unit[first..]);
+    let found = parity_rows::parity(&unit[PARITY.0..]);
     let rows = stated.rows ^ found.rows;
     let columns = stated.columns ^ found.columns;
-    let k = Words(n - first);
     five_cases(
-        u64::count_ones(rows),
-        u64::count_ones(columns),
-        u64::leading_zeros(rows) as usize,
-        u64::leading_zeros(columns) as usize,
-        k,
+        rows.count_ones(),
+        columns.count_ones(),
+        rows.leading_zeros() as usize,
+        columns.leading_zeros() as usize,
+        Words(n - PARITY.0),
     )
 }
 
@@ -117,17 +118,15 @@ pub fn check_unit(unit: &[u16], room: &mut [u16]) -> Judged
     if r.refusal != 0 {
         return r;
     }
-    let start = PARITY.0;
-    base_room::put_words(&unit[start..], room, Words(0));
-    if r.case != 2 {
-        return r;
+    base_room::put(&unit[PARITY.0..], room, 0);
+    if r.case == Case::DataBit {
+        room[r.word.0] ^= 1 << r.bit;
     }
-    let w = r.word.0;
-    room[w] = room[w] ^ (1u16 << (r.bit as u16));
     r
 }
 
 // The writer's reply.
+#[tactic(auto, unfolding(crate::specs::Unit::write_verdict, crate::specs::Unit::write_reply))]
 fn plan(data: &[u16], room: Words) -> Written
     ensures { result ≡ write_reply (length «data».now) room.0 }
 {
@@ -135,7 +134,7 @@ fn plan(data: &[u16], room: Words) -> Written
     refusal::settle(
         refusal::cause(
             refusal::LENGTH,
-            !((1 <= k) & (k <= DATA.0)),
+            !(1..=DATA.0).contains(&k),
             refusal::cause(refusal::ROOM, room.0 < PARITY.0 + k, 0),
         ),
         Words(PARITY.0 + k),

@@ -11,6 +11,7 @@ use Rattle.base.specs.Refusal.{answer}
 use Rattle.base.proofs.Refused.{answer-either}
 use Rattle.parity_rows.specs.Parity.{bit_from, row_parity, column_parity, row_word, column_word, parity_words}
 use Rattle.parity_rows.proofs.Folds.{xor-cong, number-cong}
+use Rattle.parity.specs.declared.Case.TheVariants.{DataBit}
 use Rattle.parity.specs.declared.Judged.{Judged}
 use Rattle.parity.specs.Unit.{unit_of, flipped, row_differs, column_differs, Finding, sound, parity_bit, data_bit, neither, finding, repaired, unit_data, named, refused, judge_verdict, judge_reply, check_verdict, check_reply, check_room, write_room}
 use Rattle.parity.proofs.Cases.{Within, data-within}
@@ -120,18 +121,18 @@ found-in-data u w b e = (subst (Within (length u - 8)) (sym (found u) ∙ e) (da
 
 -- of a reply: where it names a data bit, it lies in the data
 abbrev InData : ℕ → Judged → Type 0
-InData k j = j.case ≡ 2 → j.word.0 < k
+InData k j = j.case ≡ DataBit → j.word.0 < k
 
 named-in-data : (k : ℕ) (f : Finding) → Within k f → InData k (named f k)
-named-in-data k sound i e = absurd (omega (arith, e))
-named-in-data k (parity_bit w b) i e = absurd (omega (arith, e))
+named-in-data k sound i e = absurd (cc)
+named-in-data k (parity_bit w b) i e = absurd (cc)
 named-in-data k (data_bit w b) i e = i.0
-named-in-data k neither i e = absurd (omega (arith, e))
+named-in-data k neither i e = absurd (cc)
 
 answered-in-data : (v : ℕ) (u : List ℕ) → InData (length u - 8) (answer v refused (named (finding u) (length u - 8)))
 answered-in-data v u =
     let k = length u - 8 in
-    answer-either (InData k) v refused (named (finding u) k) (λ e. absurd (omega (arith, e))) (λ z. named-in-data k (finding u) (data-within u))
+    answer-either (InData k) v refused (named (finding u) k) (λ e. absurd (cc)) (λ z. named-in-data k (finding u) (data-within u))
 
 judged-in-data : (u : List ℕ) → InData (length u - 8) (judge_reply u)
 unfolding judge_reply

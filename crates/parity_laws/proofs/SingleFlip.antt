@@ -18,6 +18,8 @@ use Rattle.base.proofs.XorLaws.{xor_assoc}
 use Rattle.base.proofs.Refused.{spared, answer-yes, settled-refusal}
 use Rattle.base_room.proofs.RoomLaws.{writer-left}
 use Rattle.parity.specs.declared.Judged.{Judged}
+use Rattle.parity.specs.declared.Case.{Case}
+use Rattle.parity.specs.declared.Case.TheVariants.{Sound, ParityBit, DataBit}
 use Rattle.parity.specs.Unit.{unit_of, flipped, row_differs, column_differs, sum_all, first_of, Finding, sound, parity_bit, data_bit, neither, five_cases, finding, repaired, unit_data, reply, named, judge_verdict, judge_reply, check_reply, check_room, write_causes, write_verdict, write_reply, write_room}
 use Rattle.parity.proofs.Judging.{between, judgement, judged-refusal, checked-refusal, accepted-as-judged}
 use Rattle.parity_laws.specs.Units.{Accepted, written, Answers, WrittenIsSound, OneFlipIsRepaired, Hold, Arrived, none, whole, hurt, ArrivedHold}
@@ -82,7 +84,7 @@ flip_twice w b d h =
     ∙ set-get_or d w 0
 
 -- what the judge says of a unit, and what it holds
-record Repaired (u d : List ℕ) (case word bit : ℕ) : Type 0 where
+record Repaired (u d : List ℕ) (case : Case) (word bit : ℕ) : Type 0 where
   judges : judge_reply u ≡ reply 0 case word bit (length d)
   holds : unit_data u ≡ d
 
@@ -107,7 +109,7 @@ module _ (d : List ℕ) (fits : Fits d) where
   written-finding =
       finding-by-differences (unit_of d) nowhere nowhere (no_row d) (no-column d) ∙ nothing-differs (length (unit_of d) - 8) _ _ 0 (omega arith)
 
-  written-repaired : Repaired (unit_of d) d 0 0 0
+  written-repaired : Repaired (unit_of d) d Sound 0 0
   unfolding unit_data
   written-repaired =
       record {
@@ -158,7 +160,7 @@ module _ (d : List ℕ) (fits : Fits d) where
             finding-by-flip w b parity-in-unit nowhere (spot p) (column-parity-flip-row w b hw hb h) (column-parity-flip-column w b hw hb h)
             ∙ one-column-differs _ _ 0 p (omega arith) ∙ parity-named (4 + p / 16) (15 - p % 16) (omega arith) (omega arith)
 
-    parity-flip-repaired : Repaired (flipped (unit_of d) w b) d 1 w b
+    parity-flip-repaired : Repaired (flipped (unit_of d) w b) d ParityBit w b
     unfolding unit_data flipped
     parity-flip-repaired =
         record {
@@ -189,7 +191,7 @@ module _ (d : List ℕ) (fits : Fits d) where
         drop-set-add 8 (unit_of d) w (get_or (unit_of d) (8 + w) 0 xor 2 ^ b)
         ∙ ap₂ (λ (s : List ℕ) (x : ℕ). set s w (x xor 2 ^ b)) (unit-data d) (sym (get_or-drop 8 (unit_of d) w 0) ∙ ap (λ (s : List ℕ). get_or s w 0) (unit-data d))
 
-    data-flip-repaired : Repaired (flipped (unit_of d) (8 + w) b) d 2 w b
+    data-flip-repaired : Repaired (flipped (unit_of d) (8 + w) b) d DataBit w b
     unfolding unit_data
     data-flip-repaired =
         record {
@@ -198,19 +200,19 @@ module _ (d : List ℕ) (fits : Fits d) where
         }
 
   -- a bit of any word
-  flip-repaired : (w b : ℕ) → w < 8 + length d → b < 16 → Repaired (flipped (unit_of d) w b) d (cond (ltb w 8) 1 2) (cond (ltb w 8) w (w - 8)) b
+  flip-repaired : (w b : ℕ) → w < 8 + length d → b < 16 → Repaired (flipped (unit_of d) w b) d (cond (ltb w 8) ParityBit DataBit) (cond (ltb w 8) w (w - 8)) b
   flip-repaired w b hw hb = by_part (ltb w 8) refl
     where
-      by_part : (p : Bool) → ltb w 8 ≡ p → Repaired (flipped (unit_of d) w b) d (cond p 1 2) (cond p w (w - 8)) b
+      by_part : (p : Bool) → ltb w 8 ≡ p → Repaired (flipped (unit_of d) w b) d (cond p ParityBit DataBit) (cond p w (w - 8)) b
       by_part true e = parity-flip-repaired w b (ltb-true w 8 e) hb
       by_part false e =
           let v : ℕ = w - 8 in
           let n : 8 + v ≡ w = omega (arith, ltb-false w 8 e) in
-          subst (λ (x : ℕ). Repaired (flipped (unit_of d) x b) d 2 v b) n (data-flip-repaired v b (omega arith) hb)
+          subst (λ (x : ℕ). Repaired (flipped (unit_of d) x b) d DataBit v b) n (data-flip-repaired v b (omega arith) hb)
 
 -- ---- from the judge to the checker
 
-module _ {u d : List ℕ} {case word bit : ℕ} (r : Repaired u d case word bit) where
+module _ {u d : List ℕ} {case : Case} {word bit : ℕ} (r : Repaired u d case word bit) where
   checks : (m : ℕ) → length d ≤ m → check_reply u m ≡ reply 0 case word bit (length d)
   checks m h =
       let k = ap (λ (j : Judged). j.length.0) r.judges in
@@ -250,11 +252,11 @@ module _ (d room : List ℕ) (a : Accepted d room) where
   unfolding write_reply write_room
   unit-written = writer-left verdict_there (8 + length d) (unit_of d) room (unit-length d) unit-fits a
 
-  whole-there : Repaired (written d room) d 0 0 0
+  whole-there : Repaired (written d room) d Sound 0 0
   whole-there = rw unit-written (written-repaired d data-fit)
 
   flip-there : (w b : ℕ) → w < length (written d room) → b < 16
-      → Repaired (flipped (written d room) w b) d (cond (ltb w 8) 1 2) (cond (ltb w 8) w (w - 8)) b
+      → Repaired (flipped (written d room) w b) d (cond (ltb w 8) ParityBit DataBit) (cond (ltb w 8) w (w - 8)) b
   flip-there w b hw hb = rw unit-written (flip-repaired d data-fit w b (omega (arith, hw, ap length unit-written ∙ unit-length d)) hb)
 
 pub written-is-sound : WrittenIsSound

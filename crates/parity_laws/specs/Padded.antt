@@ -6,6 +6,7 @@ use Rattle.base.specs.Size.{parity_width, data_width}
 use Rattle.base.specs.Refusal.{Causes, verdict, answer, wrong_length, wrong_parity, no_room}
 use Rattle.base_room.specs.Room.{put}
 use Rattle.parity_rows.specs.Parity.{bit_from, row_parity, column_parity, parity_words}
+use Rattle.parity.specs.declared.Case.TheVariants.{DataBit}
 use Rattle.parity.specs.declared.Judged.{Judged}
 use Rattle.parity.specs.Unit.{sum_all, first_of, Finding, data_bit, five_cases, finding, repaired, not_unit, is_neither, named, refused, judge_reply, check_reply, check_room, write_verdict, write_room}
 
@@ -76,8 +77,8 @@ pub record AnsweredAsPadded : Type 0 where
 -- a repair never lies in the padding: a data bit that is found, or that a call names, is in one of the k words that came
 pub record RepairIsOfTheData : Type 0 where
   pub found : (u : List ℕ) (w b : ℕ) → finding_padded u ≡ data_bit w b → w < length u - parity_width
-  pub judged : (u : List ℕ) → (judge_reply u).case ≡ 2 → (judge_reply u).word.0 < length u - parity_width
-  pub checked : (u : List ℕ) (m : ℕ) → (check_reply u m).case ≡ 2 → (check_reply u m).word.0 < length u - parity_width
+  pub judged : (u : List ℕ) → (judge_reply u).case ≡ DataBit → (judge_reply u).word.0 < length u - parity_width
+  pub checked : (u : List ℕ) (m : ℕ) → (check_reply u m).case ≡ DataBit → (check_reply u m).word.0 < length u - parity_width
 
 -- all of these
 pub record TakenAsPadded : Type 0 where

@@ -3,6 +3,8 @@
 use Rattle.std.specs.Prelude.{ℕ, ◌-◌, ◌≤◌, ◌<◌, ◌≡◌, cond, List, [], ◌∷◌, length, take, ltb}
 use Rattle.base.specs.Size.{parity_width}
 use Rattle.base_room.specs.Room.{put}
+use Rattle.parity.specs.declared.Case.{Case}
+use Rattle.parity.specs.declared.Case.TheVariants.{Sound, ParityBit, DataBit}
 use Rattle.parity.specs.Unit.{flipped, judge_verdict, unit_data, reply, judge_reply, check_reply, check_room, write_reply, write_room}
 
 -- the writer takes these data in this room
@@ -14,19 +16,19 @@ abbrev pub written : List ℕ → List ℕ → List ℕ
 written d room = take (write_reply (length d) (length room)).length.0 (write_room d room)
 
 -- a unit is answered so by the judge, and by the checker in a room of as many words as the data `d` at the least, and the room then holds the data
-pub record Answers (u d : List ℕ) (case word bit : ℕ) : Type 0 where
+pub record Answers (u d : List ℕ) (case : Case) (word bit : ℕ) : Type 0 where
   pub judged : judge_reply u ≡ reply 0 case word bit (length d)
   pub checked : (m : ℕ) → length d ≤ m → check_reply u m ≡ reply 0 case word bit (length d)
   pub gives : (room : List ℕ) → length d ≤ length room → check_room u room ≡ put d 0 room
 
 -- a written unit is sound
 abbrev pub WrittenIsSound : Type 0
-WrittenIsSound = (d room : List ℕ) → Accepted d room → Answers (written d room) d 0 0 0
+WrittenIsSound = (d room : List ℕ) → Accepted d room → Answers (written d room) d Sound 0 0
 
 -- One bit b of any of its words w flipped: a bit of the parity words, or of the data words after them, and it is named.
 abbrev pub OneFlipIsRepaired : Type 0
 OneFlipIsRepaired = (d room : List ℕ) → Accepted d room → (w b : ℕ) → w < length (written d room) → b < 16
-    → Answers (flipped (written d room) w b) d (cond (ltb w parity_width) 1 2) (cond (ltb w parity_width) w (w - parity_width)) b
+    → Answers (flipped (written d room) w b) d (cond (ltb w parity_width) ParityBit DataBit) (cond (ltb w parity_width) w (w - parity_width)) b
 
 -- ---- many units
 

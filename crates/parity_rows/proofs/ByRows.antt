@@ -9,11 +9,11 @@ use native.Mathlib.Omega.{arith}
 use lib.Pow.{high, low, shl_lt}
 use lib.Bits.{xor_zero_r, xor_shifted}
 use lib.Count.{ones}
-use lib.ListN.{length}
+use lib.ListN.{length, get_or}
 use Rattle.base.specs.Xor.{◌xor◌}
 use Rattle.parity_rows.specs.declared.Sums.{Sums}
 use Rattle.parity_rows.specs.Parity.{xor_all, number, bit_from, row_parity, column_parity, row_word, column_word, parity_words, sums, parities}
-use Rattle.parity_rows.specs.ByRows.{one_more, row_of, sums_of}
+use Rattle.parity_rows.specs.ByRows.{words_of, one_more, row_of, sums_of}
 use Rattle.parity_rows.proofs.Folds.{xor-more, number_more, xor-parts, number-parts, xor-none, number-none, number_lt, number-xor_all, xor_all-lt}
 use Rattle.parity_rows.proofs.Words.{from-lt, from_past}
 use Rattle.parity_rows.proofs.Ones.{odd-ones}
@@ -95,24 +95,18 @@ middle n m f h =
 last_digits : (f : ℕ → ℕ) → ((i : ℕ) → f i < 2) → number 64 f % 2 ^ 16 ≡ number 16 (λ i. f (48 + i))
 last_digits f h = ap (λ (x : ℕ). x % 2 ^ 16) (sym (div-one (number 64 f))) ∙ middle 48 0 f h
 
--- the eight words of the sums
-abbrev words_of : Sums → List ℕ
-words_of s =
-    s.rows / 2 ^ 48 % 2 ^ 16
-    ∷ s.rows / 2 ^ 32 % 2 ^ 16
-    ∷ s.rows / 2 ^ 16 % 2 ^ 16
-    ∷ s.rows % 2 ^ 16
-    ∷ s.columns / 2 ^ 48 % 2 ^ 16
-    ∷ s.columns / 2 ^ 32 % 2 ^ 16
-    ∷ s.columns / 2 ^ 16 % 2 ^ 16
-    ∷ s.columns % 2 ^ 16
-    ∷ []
+-- the first four words of two lists, end to end
+abbrev four-and-four : List ℕ → List ℕ → List ℕ
+four-and-four xs ys =
+    get_or xs 0 0 ∷ get_or xs 1 0 ∷ get_or xs 2 0 ∷ get_or xs 3 0 ∷ get_or ys 0 0 ∷ get_or ys 1 0 ∷ get_or ys 2 0 ∷ get_or ys 3 0 ∷ []
 
-pub words-of-sums : (d : List ℕ) {s : Sums} {p : List ℕ} → s ≡ parities d → p ≡ words_of s → p ≡ parity_words d
+-- the words of the sums are the parity words
+pub words-of-sums : (d : List ℕ) {s : Sums} {xs ys : List ℕ} → s ≡ parities d → xs ≡ words_of s.rows → ys ≡ words_of s.columns
+    → four-and-four xs ys ≡ parity_words d
 unfolding parity_words row_word column_word
-words-of-sums d e q =
+words-of-sums d e p q =
     let r = row_parity d in
     let c = column_parity d in
-    q ∙ ap words_of e ∙
+    ap₂ four-and-four (p ∙ ap (λ (s : Sums). words_of s.rows) e) (q ∙ ap (λ (s : Sums). words_of s.columns) e) ∙
     ap₂ ◌∷◌ (middle 0 48 r (row_lt d)) (ap₂ ◌∷◌ (middle 16 32 r (row_lt d)) (ap₂ ◌∷◌ (middle 32 16 r (row_lt d)) (ap₂ ◌∷◌ (last_digits r (row_lt d))
     (ap₂ ◌∷◌ (middle 0 48 c (column-lt d)) (ap₂ ◌∷◌ (middle 16 32 c (column-lt d)) (ap₂ ◌∷◌ (middle 32 16 c (column-lt d)) (ap₂ ◌∷◌ (last_digits c (column-lt d)) refl)))))))

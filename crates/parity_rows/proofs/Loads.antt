@@ -1,15 +1,17 @@
 -- Rows as they are loaded, first word lowest. Words the other way round go through exclusive-or and have as many ones; so the sums of
--- loaded rows, their columns turned round once at the end, are those of the rows.
+-- loaded rows, their columns turned round once at the end, are those of the rows. Row r of the data in fours has the words from 4r on.
 use mathlib.Core.Path.{◌≡◌, refl, sym, ap, ap₂, ◌∙◌}
-use mathlib.Core.List.{List}
-use Prim.Native.Nat.{ℕ, ◌+◌, ◌-◌, ◌*◌, ◌/◌, ◌%◌, ◌^◌, ◌<◌}
-use native.Mathlib.Nat.{mod-lt, mod-eq_of_lt}
+use mathlib.Core.List.{List, []}
+use Prim.Native.Nat.{ℕ, zero, suc, ◌+◌, ◌-◌, ◌*◌, ◌/◌, ◌%◌, ◌^◌, ◌<◌}
+use native.Mathlib.Nat.{mod-lt, mod-eq_of_lt, add-zero}
 use native.Mathlib.Omega.{arith}
 use lib.Dec.{lit<}
 use lib.Pow.{low}
-use lib.ListN.{get_or}
+use lib.ListN.{get_or, take, drop}
 use lib.Bits.{xor_block}
 use lib.Count.{ones, ones_cat}
+use Rattle.std.specs.Simd.{first_chunks}
+use Rattle.std.proofs.lemmas.List.{get_or-take, get_or-drop, drop-drop}
 use Rattle.base.specs.Xor.{◌xor◌}
 use Rattle.base.specs.Number.{low_word}
 use Rattle.base.proofs.Linear as linear
@@ -63,6 +65,25 @@ as_many : (a b c d : ℕ) → a < 65536 → b < 65536 → c < 65536 → d < 6553
 as_many a b c d ha hb hc hd =
     let e : ones d + ones c + ones b + ones a ≡ ones a + ones b + ones c + ones d = omega arith in
     ones-pack d c b a hd hc hb ha ∙ e ∙ sym (ones-pack a b c d ha hb hc hd)
+
+-- ---- in fours
+
+fours : (d : List ℕ) (k r : ℕ) → r < k → get_or (first_chunks 4 k d) r [] ≡ take 4 (drop (4 * r) d)
+fours d zero r h = absurd (omega (arith, h))
+fours d (suc k) zero h = refl
+fours d (suc k) (suc r) h =
+    let e : 4 + 4 * r ≡ 4 * suc r = omega arith in
+    fours (drop 4 d) k r (omega (arith, h)) ∙ ap (take 4) (drop-drop (4 * r) 4 d ∙ ap (λ (n : ℕ). drop n d) e)
+
+-- the row of four is what stands at its place
+pub loaded-four : (d : List ℕ) (m k r : ℕ) → r < m → r < k → loaded (get_or (take m (first_chunks 4 k d)) r []) 0 ≡ loaded d (4 * r)
+loaded-four d m k r hm hk =
+    ap (λ (x : List ℕ). loaded x 0) (get_or-take m (first_chunks 4 k d) r [] hm ∙ fours d k r hk)
+    ∙ ap₂ (λ (x y : ℕ). pack x y (get_or (take 4 (drop (4 * r) d)) 1 0) (get_or (take 4 (drop (4 * r) d)) 0 0)) (word 3 (omega arith)) (word 2 (omega arith))
+    ∙ ap₂ (pack (get_or d (4 * r + 3) 0) (get_or d (4 * r + 2) 0)) (word 1 (omega arith)) (word 0 (omega arith) ∙ ap (λ (n : ℕ). get_or d n 0) (add-zero (4 * r)))
+  where
+    word : (i : ℕ) → i < 4 → get_or (take 4 (drop (4 * r) d)) i 0 ≡ get_or d (4 * r + i) 0
+    word i h = get_or-take 4 (drop (4 * r) d) i 0 h ∙ get_or-drop (4 * r) d i 0
 
 -- ---- of data
 

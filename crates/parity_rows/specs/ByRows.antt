@@ -1,6 +1,6 @@
 -- The steps of the code, which goes row by row and not bit by bit: cited by the contracts of private functions alone. `proofs/ByRows.antt` shows that
 -- they find the parity of `Parity`.
-use Rattle.std.specs.Prelude.{List, ℕ, ◌+◌, ◌-◌, ◌*◌, ◌/◌, ◌%◌, ◌^◌, get_or}
+use Rattle.std.specs.Prelude.{List, [], ◌∷◌, ℕ, ◌+◌, ◌-◌, ◌*◌, ◌/◌, ◌%◌, ◌^◌, get_or}
 use Rattle.std.specs.Int.Count.{ones}
 use Rattle.base.specs.Xor.{◌xor◌}
 use Rattle.base.specs.Number.{low_word}
@@ -14,6 +14,10 @@ pack a b c d = ((a * 2 ^ 16 + b) * 2 ^ 16 + c) * 2 ^ 16 + d
 -- the four words at a place, the first lowest, as they are loaded
 abbrev pub loaded : List ℕ → ℕ → ℕ
 loaded ws i = pack (get_or ws (i + 3) 0) (get_or ws (i + 2) 0) (get_or ws (i + 1) 0) (get_or ws i 0)
+
+-- the four words of a number, the first highest
+abbrev pub words_of : ℕ → List ℕ
+words_of x = low_word (x / 2 ^ 48) ∷ low_word (x / 2 ^ 32) ∷ low_word (x / 2 ^ 16) ∷ low_word x ∷ []
 
 -- four words the other way round
 abbrev pub exchanged : ℕ → ℕ

@@ -1,10 +1,10 @@
 // The parity of data, taken as 64 rows of 64 bits: in one pass by rows of four words, zeros past the end.
 #![tactic(auto)]
 
-ghost use Rattle.std.specs.Prelude.{◌≡◌, ◌+◌, ◌*◌, ◌/◌, ◌<◌, ◌≤◌, min, length};
+ghost use Rattle.std.specs.Prelude.{◌≡◌, ◌+◌, ◌/◌, ◌<◌, ◌≤◌, length, min};
 ghost use Rattle.base.specs.Size.{data_width};
 ghost use Rattle.parity_rows.specs.Parity.{number, bit_from, parity_words, parities, stated_parity};
-ghost use Rattle.parity_rows.specs.ByRows.{pack, loaded, exchanged, one_more, sums_of};
+ghost use Rattle.parity_rows.specs.ByRows.{pack, words_of, loaded, exchanged, one_more, sums_of};
 
 use base::size::PARITY;
 use base::{Words, number};
@@ -16,31 +16,38 @@ pub struct Sums {
     pub columns: u64,
 }
 
+// Four words as one number, the first highest. Its callers turn their words round or read them one by one, so it takes no array.
 fn pack_row(a: u16, b: u16, c: u16, d: u16) -> u64
     ensures { result ≡ pack a b c d }
 {
-    ((a as u64) << 48) | ((b as u64) << 32) | ((c as u64) << 16) | (d as u64)
+    u64::from(a) << 48 | u64::from(b) << 32 | u64::from(c) << 16 | u64::from(d)
 }
 
-// The four words at a place as one number, the first lowest, as one load of 64 bits gives them.
-fn load(words: &[u16], at: Words) -> u64
-    requires { at.0 + 4 ≤ length words.now }
-    ensures { result ≡ loaded words.now at.0 }
+// Four words as one number, the first lowest, as one load of 64 bits gives them.
+fn load(words: &[u16; 4]) -> u64
+    ensures { result ≡ loaded words.now 0 }
 {
-    let i = at.0;
-    pack_row(words[i + 3], words[i + 2], words[i + 1], words[i])
+    pack_row(words[3], words[2], words[1], words[0])
+}
+
+// The four words of a number, the first highest.
+fn words_of(x: u64) -> [u16; 4]
+    ensures { result ≡ words_of x }
+{
+    [
+        number::low_word(x >> 48),
+        number::low_word(x >> 32),
+        number::low_word(x >> 16),
+        number::low_word(x),
+    ]
 }
 
 // Four words the other way round.
 fn exchange(x: u64) -> u64
     ensures { result ≡ exchanged x }
 {
-    pack_row(
-        number::low_word(x),
-        number::low_word(x >> 16),
-        number::low_word(x >> 32),
-        number::low_word(x >> 48),
-    )
+    let [a, b, c, d] = words_of(x);
+    pack_row(d, c, b, a)
 }
 
 // The 64 bits from a word on as one number, the first bit highest; zeros past the end.
@@ -50,24 +57,10 @@ fn bits_from(words: &[u16], at: Words) -> u64
 {
     let first = at.0;
     pack_row(
-        base_room::word_at(words, Words(first)),
-        base_room::word_at(words, Words(first + 1)),
-        base_room::word_at(words, Words(first + 2)),
-        base_room::word_at(words, Words(first + 3)),
-    )
-}
-
-// The row that the data end in, three words at the most, as one number.
-fn last_row(data: &[u16], at: Words) -> u64
-    requires { (at.0 ≤ data_width) × (length «data».now ≤ at.0 + 3) }
-    ensures { result ≡ number 64 (bit_from «data».now at.0) }
-{
-    let first = at.0;
-    pack_row(
-        base_room::word_at(data, Words(first)),
-        base_room::word_at(data, Words(first + 1)),
-        base_room::word_at(data, Words(first + 2)),
-        0,
+        base_room::at(words, first),
+        base_room::at(words, first + 1),
+        base_room::at(words, first + 2),
+        base_room::at(words, first + 3),
     )
 }
 
@@ -76,35 +69,26 @@ fn add(s: Sums, w: u64, r: usize) -> Sums
     requires { r < 64 }
     ensures { result ≡ one_more s w r }
 {
-    let odd = (u64::count_ones(w) & 1) as u64;
+    let odd = u64::from(w.count_ones() & 1);
     Sums {
-        rows: s.rows ^ (odd << (63 - r as u64)),
+        rows: s.rows ^ (odd << (63 - r)),
         columns: s.columns ^ w,
     }
 }
 
-// How many of the rows are whole, in data of n words.
-fn whole_in(n: Words) -> usize
-    ensures { result ≡ min (n.0 / 4) 64 }
+// The sums of the whole rows, of which 64 count. Words stay as they are loaded up to the end, so that the loop has no more than a load and a count of ones
+// for each row.
+fn whole_rows(data: &[u16]) -> Sums
+    ensures { result ≡ sums_of «data».now (min (length «data».now / 4) 64) }
 {
-    let whole = n.0 / 4;
-    if whole < 64 { whole } else { 64 }
-}
-
-// The sums of the first rows, all of them whole. Words stay as they are loaded up to the end, so that the loop has no more than a load and a count of
-// ones for each row.
-fn whole_rows(data: &[u16], count: usize) -> Sums
-    requires { (count ≤ 64) × (4 * count ≤ length «data».now) }
-    ensures { result ≡ sums_of «data».now count }
-{
+    let (whole, _) = data.as_chunks::<4>();
+    let rows = &whole[..whole.len().min(64)];
     let mut s = Sums {
         rows: 0,
         columns: 0,
     };
-    let mut r = 0;
-    while r < count {
-        s = add(s, load(data, Words(4 * r)), r);
-        r += 1;
+    for (r, row) in rows.iter().enumerate() {
+        s = add(s, load(row), r);
     }
     Sums {
         rows: s.rows,
@@ -112,31 +96,27 @@ fn whole_rows(data: &[u16], count: usize) -> Sums
     }
 }
 
-// The parity of every row and every column of the data: rows past its end add nothing.
+// The parity of every row and every column of the data: rows past its end add nothing. As a call of its own it would slow the unit judge by a tenth.
+#[inline(always)]
 pub fn parity(data: &[u16]) -> Sums
     ensures { result ≡ parities «data».now }
 {
-    let whole = whole_in(Words(data.len()));
-    let s = whole_rows(data, whole);
+    let whole = (data.len() / 4).min(64);
+    let s = whole_rows(data);
     if whole == 64 {
         return s;
     }
-    add(s, last_row(data, Words(4 * whole)), whole)
+    add(s, bits_from(data, Words(4 * whole)), whole)
 }
 
-// The parity that a unit's parity words state.
+// The parity that a unit's parity words state. Inlined in the unit judge, whose units have these words, it makes no test for the end.
+#[inline(always)]
 pub fn stated(unit: &[u16]) -> Sums
     ensures { result ≡ stated_parity unit.now }
 {
-    if unit.len() < PARITY.0 {
-        return Sums {
-            rows: bits_from(unit, Words(0)),
-            columns: bits_from(unit, Words(4)),
-        };
-    }
     Sums {
-        rows: exchange(load(unit, Words(0))),
-        columns: exchange(load(unit, Words(4))),
+        rows: bits_from(unit, Words(0)),
+        columns: bits_from(unit, Words(4)),
     }
 }
 
@@ -144,17 +124,8 @@ pub fn stated(unit: &[u16]) -> Sums
 pub fn parity_words(data: &[u16]) -> [u16; PARITY.0]
     ensures { result ≡ parity_words «data».now }
 {
-    let s = parity(data);
-    let rows = s.rows;
-    let columns = s.columns;
-    [
-        number::low_word(rows >> 48),
-        number::low_word(rows >> 32),
-        number::low_word(rows >> 16),
-        number::low_word(rows),
-        number::low_word(columns >> 48),
-        number::low_word(columns >> 32),
-        number::low_word(columns >> 16),
-        number::low_word(columns),
-    ]
+    let sums = parity(data);
+    let [a, b, c, d] = words_of(sums.rows);
+    let [e, f, g, h] = words_of(sums.columns);
+    [a, b, c, d, e, f, g, h]
 }

@@ -1,4 +1,4 @@
--- The data of a payload's units joined, unit by unit: what is taken of the units from the place on is left to write. Of the accepted units the unit checker
+-- The data of a payload's units joined, unit by unit: what is taken of the units that are left is left to write. Of the accepted units the unit checker
 -- writes what a unit gives, and a refused unit gives nothing. The words after the parity words are what is given where no data were touched.
 use mathlib.Core.Path.{◌≡◌, refl, sym, ap, ap₂, ◌∙◌}
 use mathlib.Core.Bool.{Bool, true, false, ◌||◌, false≢true, or_assoc}
@@ -21,7 +21,7 @@ use Rattle.parity.specs.Unit.{Finding, sound, parity_bit, data_bit, neither, fin
 use Rattle.parity.proofs.Judging.{named-length, judge-finds}
 use Rattle.parity_units.specs.Split.{units_in, given, given_data, data_words, data_words_in}
 use Rattle.parity_units.specs.Replies.{taken_reply, taken_room, join_reply, join_room, standing_data, copy_reply, copy_room, outcome_of, any_touched}
-use Rattle.parity_units.proofs.Split.{units-end, units-step, data-length, data-words, given-length}
+use Rattle.parity_units.proofs.Split.{units-end, units-next, data-length, data-words, given-length}
 
 -- ---- one unit, in a room that is long enough
 
@@ -71,10 +71,9 @@ module _ (u room : List ℕ) where
 
 -- ---- all units, whatever is taken of them
 
-pub record Joined (taken : List (List ℕ) → List ℕ) (p room₀ : List ℕ) (place : ℕ) (room : List ℕ) (at to : ℕ) : Type 0 where
-  pub within : at ≤ length p
-  pub fits : to + data_words (units_in (drop at p)) ≤ length room
-  pub filled : Filled (taken (units_in p)) room₀ place (taken (units_in (drop at p))) room to
+pub record Joined (taken : List (List ℕ) → List ℕ) (p room₀ : List ℕ) (place : ℕ) (room rest : List ℕ) (to : ℕ) : Type 0 where
+  pub fits : to + data_words (units_in rest) ≤ length room
+  pub filled : Filled (taken (units_in p)) room₀ place (taken (units_in rest)) room to
 
 module _ (taken : List (List ℕ) → List ℕ) (p room : List ℕ) (place : ℕ) where
   -- too little room
@@ -90,45 +89,40 @@ module _ (taken : List (List ℕ) → List ℕ) (p room : List ℕ) (place : ℕ
       let f = le-leb (place + data_words (units_in p)) (length room) h in
       (rw f, rw f)
 
-  pub none-joined : ((us : List (List ℕ)) → length (taken us) ≤ data_words us) → leb (place + data_words_in (length p)) (length room) ≡ true → Joined taken p room place room 0 place
+  pub none-joined : ((us : List (List ℕ)) → length (taken us) ≤ data_words us) → leb (place + data_words_in (length p)) (length room) ≡ true → Joined taken p room place room p place
   none-joined few h =
       let n : place + data_words_in (length p) ≤ length room = leb-true _ _ h in
       record {
-        within = omega arith;
         fits = omega (arith, data-words p);
         filled = filling.filled_none (taken (units_in p)) room place (omega (arith, data-words p, few (units_in p)));
       }
 
-module _ (taken : List (List ℕ) → List ℕ) (p room₀ : List ℕ) (place : ℕ) (room : List ℕ) (at to : ℕ) (k : Joined taken p room₀ place room at to) where
-  module _ (end : ℕ) (h : at < length p) (e : end ≡ at + min 264 (length p - at)) where
-    abbrev unit : List ℕ
-    unit = take (end - at) (drop at p)
-
-    words-here : data_words (units_in (drop at p)) ≡ (length unit - 8) + data_words (units_in (drop end p))
+module _ (taken : List (List ℕ) → List ℕ) (p room₀ : List ℕ) (place : ℕ) (room rest : List ℕ) (to : ℕ) (k : Joined taken p room₀ place room rest to) where
+  module _ (unit more : List ℕ) (e : rest ≡ unit ++ more) (l : length unit ≡ min 264 (length rest)) (some : 0 < length rest) where
+    words-here : data_words (units_in rest) ≡ (length unit - 8) + data_words (units_in more)
     unfolding data_words
-    words-here = ap data_words (units-step p at end h e)
+    words-here = ap data_words (units-next rest unit more e l some)
 
     -- there is room for the data of this unit
     pub unit-fits : to + (length unit - 8) ≤ length room
     unit-fits = omega (arith, k.fits, words-here)
 
     -- a unit more, of which a part is taken
-    more-joined : (part : List ℕ) → length part ≤ length unit - 8 → taken (unit ∷ units_in (drop end p)) ≡ part ++ taken (units_in (drop end p))
-        → (room₁ : List ℕ) → room₁ ≡ put part to room → (to₁ : ℕ) → to₁ ≡ to + length part → Joined taken p room₀ place room₁ end to₁
+    more-joined : (part : List ℕ) → length part ≤ length unit - 8 → taken (unit ∷ units_in more) ≡ part ++ taken (units_in more)
+        → (room₁ : List ℕ) → room₁ ≡ put part to room → (to₁ : ℕ) → to₁ ≡ to + length part → Joined taken p room₀ place room₁ more to₁
     more-joined part few t room₁ w to₁ q =
         let f =
-        filling.filled_more (taken (units_in p)) room₀ place (taken (units_in (drop at p))) room to k.filled part (taken (units_in (drop end p)))
-        (ap taken (units-step p at end h e) ∙ t) room₁ w to₁ q in
+        filling.filled_more (taken (units_in p)) room₀ place (taken (units_in rest)) room to k.filled part (taken (units_in more))
+        (ap taken (units-next rest unit more e l some) ∙ t) room₁ w to₁ q in
         record {
-          within = omega (arith, k.within);
           fits = omega (arith, k.fits, words-here, f.long, k.filled.long);
           filled = f;
         }
 
-  pub all-joined : taken [] ≡ [] → leb (place + data_words_in (length p)) (length room₀) ≡ true → length p ≤ at
+  pub all-joined : taken [] ≡ [] → leb (place + data_words_in (length p)) (length room₀) ≡ true → length rest ≡ 0
       → (place ≤ to) × (to - place ≡ taken_reply taken p place (length room₀)) × (room ≡ taken_room taken p place room₀)
   all-joined none s h =
-      let d = filling.filled-all (taken (units_in p)) room₀ place (taken (units_in (drop at p))) room to k.filled (ap taken (units-end p at h) ∙ none) in
+      let d = filling.filled-all (taken (units_in p)) room₀ place (taken (units_in rest)) room to k.filled (ap taken (units-end rest h) ∙ none) in
       let f = ap (λ (n : ℕ). leb (place + n) (length room₀)) (data-words p) ∙ s in
       (omega (arith, d.1), rw f (omega (arith, d.1)), rw f d.0)
 
@@ -138,29 +132,26 @@ pub given-none : given_data [] ≡ []
 unfolding given_data
 given-none = refl
 
-module _ (p room₀ : List ℕ) (place : ℕ) (room : List ℕ) (at to : ℕ) (k : Joined given_data p room₀ place room at to) where
-  module _ (end : ℕ) (h : at < length p) (e : end ≡ at + min 264 (length p - at)) where
-    abbrev here : List ℕ
-    here = take (end - at) (drop at p)
-
+module _ (p room₀ : List ℕ) (place : ℕ) (room rest : List ℕ) (to : ℕ) (k : Joined given_data p room₀ place room rest to) where
+  module _ (unit more : List ℕ) (e : rest ≡ unit ++ more) (l : length unit ≡ min 264 (length rest)) (some : 0 < length rest) where
     abbrev lent : List ℕ
     lent = take (length room - to) (drop to room)
 
-    gives-here : Gives here lent
-    gives-here = gives here lent (omega (arith, unit-fits given_data p room₀ place room at to k end h e, length-take (length room - to) (drop to room), length-drop to room))
+    gives-here : Gives unit lent
+    gives-here = gives unit lent (omega (arith, unit-fits given_data p room₀ place room rest to k unit more e l some, length-take (length room - to) (drop to room), length-drop to room))
 
-    module _ (r : Judged) (c : r ≡ check_reply here (length lent)) where
-      words : r.length.0 ≡ length (given here)
+    module _ (r : Judged) (c : r ≡ check_reply unit (length lent)) where
+      words : r.length.0 ≡ length (given unit)
       words = ap (λ (x : Judged). x.length.0) c ∙ gives-here.says
 
       pub room-left : to + r.length.0 ≤ length room
-      room-left = omega (arith, unit-fits given_data p room₀ place room at to k end h e, words, given-length here)
+      room-left = omega (arith, unit-fits given_data p room₀ place room rest to k unit more e l some, words, given-length unit)
 
-      pub unit-joined : (tail : List ℕ) → tail ≡ check_room here lent → Joined given_data p room₀ place (put_mid to (length room - to) room tail) end (to + r.length.0)
+      pub unit-joined : (tail : List ℕ) → tail ≡ check_room unit lent → Joined given_data p room₀ place (put_mid to (length room - to) room tail) more (to + r.length.0)
       unfolding given_data
       unit-joined tail w =
-          more-joined given_data p room₀ place room at to k end h e (given here) (given-length here) refl _
-          (put-lent (given here) to room (omega (arith, room-left, words)) tail (w ∙ gives-here.writes)) _ (ap (λ (n : ℕ). to + n) words)
+          more-joined given_data p room₀ place room rest to k unit more e l some (given unit) (given-length unit) refl _
+          (put-lent (given unit) to room (omega (arith, room-left, words)) tail (w ∙ gives-here.writes)) _ (ap (λ (n : ℕ). to + n) words)
 
 -- ---- what stands there
 
@@ -173,18 +164,15 @@ unfolding standing_data data_words
 standing-words [] = omega arith
 standing-words (u ∷ us) = omega (arith, length-append (drop 8 u) (standing_data us), length-drop 8 u, standing-words us)
 
-module _ (p room₀ : List ℕ) (place : ℕ) (room : List ℕ) (at to : ℕ) (k : Joined standing_data p room₀ place room at to) where
-  module _ (end : ℕ) (h : at < length p) (e : end ≡ at + min 264 (length p - at)) (d : List ℕ) (q : d ≡ drop 8 (take (end - at) (drop at p))) where
-    data-words-here : length d ≡ length (take (end - at) (drop at p)) - 8
-    data-words-here = ap length q ∙ length-drop 8 (take (end - at) (drop at p))
+module _ (p room₀ : List ℕ) (place : ℕ) (room rest : List ℕ) (to : ℕ) (k : Joined standing_data p room₀ place room rest to) where
+  module _ (unit more : List ℕ) (e : rest ≡ unit ++ more) (l : length unit ≡ min 264 (length rest)) (some : 0 < length rest) (d : List ℕ) (q : d ≡ drop 8 unit) where
+    data-words-here : length d ≡ length unit - 8
+    data-words-here = ap length q ∙ length-drop 8 unit
 
-    pub copy-left : to + length d ≤ length room
-    copy-left = omega (arith, unit-fits standing_data p room₀ place room at to k end h e, data-words-here)
-
-    pub unit-copied : (room₁ : List ℕ) → room₁ ≡ put d to room → Joined standing_data p room₀ place room₁ end (to + length d)
+    pub unit-copied : (room₁ : List ℕ) → room₁ ≡ put d to room → Joined standing_data p room₀ place room₁ more (to + length d)
     unfolding standing_data
     unit-copied room₁ w =
-        more-joined standing_data p room₀ place room at to k end h e d (omega (arith, data-words-here)) (ap (λ (x : List ℕ). x ++ standing_data (units_in (drop end p))) (sym q))
+        more-joined standing_data p room₀ place room rest to k unit more e l some d (omega (arith, data-words-here)) (ap (λ (x : List ℕ). x ++ standing_data (units_in more)) (sym q))
         room₁ w (to + length d) refl
 
 -- ---- where no data were touched, what stands there is given

@@ -1,66 +1,46 @@
--- A payload unit by unit: from a place where a unit begins, the first unit and those from its end on are the units from that place on. How many data words
--- there are follows from the length alone.
+-- A payload unit by unit: its chunks of 264 words are its units. How many data words there are follows from the length alone.
 use mathlib.Core.Path.{◌≡◌, refl, sym, ap, ap₂, ◌∙◌}
 use mathlib.Core.Bool.{Bool, true, false, cond, ◌||◌, false≢true, or_assoc}
-use mathlib.Core.List.{List, [], ◌∷◌, ◌++◌, append_assoc}
+use mathlib.Core.List.{List, [], ◌∷◌, ◌++◌, append_assoc, append-nil}
 use mathlib.Core.Logic.{◌⊎◌, inl, inr}
 use Prim.Native.Nat.{ℕ, zero, suc, ◌+◌, ◌-◌, ◌*◌, ◌/◌, ◌%◌, ◌≤◌, ◌<◌, min}
 use native.Mathlib.Omega.{arith}
 use native.Mathlib.Nat.{add_assoc}
 use lib.ListN.{length, take, drop, length-take, length-drop, length-set, length-append, drop_of_length-le}
-use lib.Seq.{take_all, drop-drop}
+use lib.Seq.{take_all, take_at, drop_at}
 use lib.Dec.{leb, eqb}
 use borrow.Author.Tests.{leb-true, leb-false, le-leb, eqb-true, eqb-false}
+use Rattle.std.proofs.lemmas.Bool.{cases_lt}
+use Rattle.std.proofs.lemmas.List.{nil_from_length}
 use Rattle.base.proofs.Booleans.{or-false}
 use Rattle.base.proofs.Refused.{answer-yes, answer-no}
 use Rattle.base.specs.Refusal.{wrong_parity}
 use Rattle.parity.specs.Unit.{Finding, sound, parity_bit, data_bit, neither, finding, flipped, repaired, unit_data, is_neither, judge_verdict}
 use Rattle.parity_units.specs.Split.{parts, units_in, any_damaged, joined_data, given, given_data, data_words, data_words_in}
 
-module _ (p : List ℕ) (at : ℕ) where
-  -- no unit begins at the end
-  pub units-end : length p ≤ at → units_in (drop at p) ≡ []
-  unfolding parts
-  units-end h = ap units_in (drop_of_length-le p h)
+-- in nothing there are no units
+pub units-end : (rest : List ℕ) → length rest ≡ 0 → units_in rest ≡ []
+unfolding parts
+units-end rest h = ap units_in (nil_from_length rest h)
 
-  module _ (end : ℕ) (h : at < length p) (e : end ≡ at + min 264 (length p - at)) where
-    left : length (drop at p) ≡ length p - at
-    left = length-drop at p
+-- the next of the chunks of 264 words is the first unit, and the units of what is left follow it
+pub units-next : (rest unit more : List ℕ) → rest ≡ unit ++ more → length unit ≡ min 264 (length rest) → 0 < length rest
+    → units_in rest ≡ unit ∷ units_in more
+unfolding parts
+units-next rest unit more e u some =
+    let l : length rest ≡ length unit + length more = ap length e ∙ length-append unit more in
+    let n : (length rest + 263) / 264 ≡ suc ((length more + 263) / 264) = omega arith in
+    ap (λ (k : ℕ). parts k rest) n ∙ ap₂ (λ (x y : List ℕ). x ∷ parts ((length more + 263) / 264) y) (first l (cases_lt (length rest) 264)) (after l (cases_lt (length rest) 264))
+  where
+    first : length rest ≡ length unit + length more → (length rest < 264) ⊎ (264 ≤ length rest) → take 264 rest ≡ unit
+    first l (inl short) =
+        let none : more ≡ [] = nil_from_length more (omega arith) in
+        take_all 264 rest (omega arith) ∙ e ∙ ap (λ (m : List ℕ). unit ++ m) none ∙ append-nil unit
+    first l (inr long) = ap (take 264) e ∙ take_at unit more 264 (omega arith)
 
-    -- the unit that begins here
-    first : take (end - at) (drop at p) ≡ take 264 (drop at p)
-    first = by_length (leb 264 (length p - at)) refl
-      where
-        by_length : (b : Bool) → leb 264 (length p - at) ≡ b → take (end - at) (drop at p) ≡ take 264 (drop at p)
-        by_length true l =
-            let m : 264 ≤ length p - at = leb-true 264 (length p - at) l in
-            let n : end - at ≡ 264 = omega arith in
-            ap (λ (k : ℕ). take k (drop at p)) n
-        by_length false l =
-            let m : length p - at < 264 = leb-false 264 (length p - at) l in
-            take_all (end - at) (drop at p) (omega (arith, left)) ∙ sym (take_all 264 (drop at p) (omega (arith, left)))
-
-    -- and what stands after it
-    after : drop 264 (drop at p) ≡ drop end p
-    after = by_length (leb 264 (length p - at)) refl
-      where
-        by_length : (b : Bool) → leb 264 (length p - at) ≡ b → drop 264 (drop at p) ≡ drop end p
-        by_length true l =
-            let m : 264 ≤ length p - at = leb-true 264 (length p - at) l in
-            let n : at + 264 ≡ end = omega arith in
-            drop-drop 264 at p ∙ ap (λ (k : ℕ). drop k p) n
-        by_length false l =
-            let m : length p - at < 264 = leb-false 264 (length p - at) l in
-            let x : length p ≤ at + 264 = omega arith in
-            let y : length p ≤ end = omega arith in
-            drop-drop 264 at p ∙ drop_of_length-le p x ∙ sym (drop_of_length-le p y)
-
-    pub units-step : units_in (drop at p) ≡ take (end - at) (drop at p) ∷ units_in (drop end p)
-    unfolding parts
-    units-step =
-        let l : length (drop end p) ≡ length p - end = length-drop end p in
-        let n : (length (drop at p) + 263) / 264 ≡ suc ((length (drop end p) + 263) / 264) = omega (arith, left) in
-        ap (λ (k : ℕ). parts k (drop at p)) n ∙ ap₂ (λ (u r : List ℕ). u ∷ parts ((length (drop end p) + 263) / 264) r) (sym first) after
+    after : length rest ≡ length unit + length more → (length rest < 264) ⊎ (264 ≤ length rest) → drop 264 rest ≡ more
+    after l (inl short) = (let few : length rest ≤ 264 = omega arith in drop_of_length-le rest few) ∙ sym (nil_from_length more (omega arith))
+    after l (inr long) = ap (drop 264) e ∙ drop_at unit more 264 (omega arith)
 
 -- ---- data words
 

@@ -3,7 +3,7 @@ use Rattle.std.specs.Prelude.{ℕ, ◌+◌, Bool, false, cond, ◌||◌, List, [
 use Rattle.base.specs.Size.{parity_width}
 use Rattle.base_room.specs.Room.{put}
 use Rattle.parity.specs.declared.Judged.{Judged}
-use Rattle.parity.specs.Unit.{judge_reply}
+use Rattle.parity.specs.Unit.{case_number, judge_reply}
 use Rattle.parity_units.specs.declared.Outcomes.{Outcomes}
 use Rattle.parity_units.specs.declared.Harm.{Harm}
 use Rattle.parity_units.specs.Split.{units_in, any_damaged, given_data, data_words}
@@ -38,9 +38,10 @@ copy_room = taken_room standing_data
 
 -- ---- units by outcome
 
--- what becomes of a unit, by what the unit judge says of it: 0 sound, 1 a parity bit was hit, 2 a data bit was hit and is repaired, 3 refused
+-- what becomes of a unit, by what the unit judge says of it: the number of its case, 0 sound, 1 a parity bit was hit, 2 a data bit was hit and is
+-- repaired, or 3 where it is refused
 abbrev pub outcome_of : Judged → ℕ
-outcome_of r = cond (eqb r.refusal 0) r.case 3
+outcome_of r = cond (eqb r.refusal 0) (case_number r.case) 3
 
 -- how many of these units have the outcome k
 unfoldable pub how_many : ℕ → List (List ℕ) → ℕ

@@ -10,19 +10,16 @@ use base::{Bytes, Words, Written, number, refusal};
 fn too_many(bytes: Bytes, most: Words) -> bool
     ensures { result ≡ ltb (2 * (1 + most.0)) bytes.0 }
 {
-    let n = bytes.0;
-    if n == 0 {
-        return false;
-    }
-    most.0 < (n - 1) / 2
+    most.0 < bytes.0.saturating_sub(1) / 2
 }
 
 // The reply for so many bytes.
+#[tactic(auto, unfolding(crate::specs::Input::words_reply))]
 fn plan(bytes: Bytes, most: Words, room: Words) -> Written
     ensures { result ≡ words_reply bytes.0 most.0 room.0 }
 {
     let n = bytes.0;
-    let wrong = (n % 2 == 1) | (n == 0) | too_many(bytes, most);
+    let wrong = n % 2 == 1 || n == 0 || too_many(bytes, most);
     let no_room = room.0 < n / 2;
     refusal::settle(
         refusal::cause(
@@ -43,11 +40,9 @@ pub fn words(bytes: &[u8], most: Words, room: &mut [u16]) -> Written
     if reply.refusal != 0 {
         return reply;
     }
-    let n = bytes.len() / 2;
-    let mut i = 0;
-    while i < n {
-        room[i] = number::word(bytes[2 * i], bytes[2 * i + 1]);
-        i += 1;
+    let (pairs, _) = bytes.as_chunks::<2>();
+    for (i, pair) in pairs.iter().enumerate() {
+        room[i] = number::word(pair[0], pair[1]);
     }
     reply
 }

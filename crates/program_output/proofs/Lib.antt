@@ -1,1 +1,2 @@
+mod Placed
 mod Spelling

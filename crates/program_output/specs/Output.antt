@@ -1,5 +1,6 @@
 -- How a program's text is gathered on a page before it is written, and how a number is spelled. FORMAT, "Listing program", prints numbers so.
-use Rattle.std.specs.Prelude.{◌≡◌, refl, Bool, true, false, cond, List, [], ◌∷◌, ◌++◌, ℕ, zero, suc, ◌+◌, ◌/◌, ◌%◌, ltb, leb, ℤ}
+use Rattle.std.specs.Prelude.{◌≡◌, refl, true, false, cond, List, [], ◌∷◌, ◌++◌, length, replicate, ℕ, zero, suc, ◌+◌, ◌/◌, ◌%◌, ltb, leb, ℤ}
+use Rattle.base_room.specs.Room.{put}
 use Rattle.program_output.specs.declared.Out.{Out}
 
 -- the decimal digits of n, the first one first, where there are k of them at the most
@@ -15,17 +16,22 @@ decimal n = digits_within 20 n
 abbrev pub page_size : ℕ
 page_size = 4096
 
-abbrev pub page : ℤ → ℕ → Bool → Out
-page descriptor used failed = record { descriptor = descriptor; used = record { 0 = used }; failed = failed }
-
 -- an empty page
 abbrev pub to_reply : ℤ → Out
-to_reply descriptor = page descriptor 0 false
+to_reply descriptor =
+    record {
+      descriptor = descriptor;
+      page = replicate page_size 0;
+      used = record { 0 = 0 };
+      failed = false;
+    }
 
--- n bytes more on a page: they are counted where they fit, else the page has failed
-abbrev pub append_reply : Out → ℕ → Out
-append_reply out n =
-    cond (leb (out.used.0 + n) page_size) (page out.descriptor (out.used.0 + n) out.failed) (page out.descriptor out.used.0 true)
+-- more bytes on a page: they stand behind the others and are counted where they fit, else the page has failed
+abbrev pub append_reply : Out → List ℕ → Out
+append_reply out bytes =
+    cond (leb (out.used.0 + length bytes) page_size)
+    (record out { page = put bytes out.used.0 out.page; used = record { 0 = out.used.0 + length bytes } })
+    (record out { failed = true })
 
 none : decimal 0 ≡ 48 ∷ []
 unfolding decimal

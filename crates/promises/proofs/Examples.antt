@@ -11,6 +11,7 @@ use Rattle.chunk.specs.Header.{legal_size, legal, headed, confirmed}
 use Rattle.chunk.specs.Reading.{listed, any_end, skipped_from}
 use Rattle.chunk_reading.specs.Counting.{surveyed, survey_reply}
 use Rattle.parity_rows.specs.Parity.{xor_all, number, bit_from, row_parity, column_parity, row_word, column_word, parity_words}
+use Rattle.parity.specs.declared.Case.TheVariants.{ParityBit, DataBit}
 use Rattle.parity.specs.Unit.{unit_of, flipped, row_differs, column_differs, sum_all, first_of, five_cases, finding, unit_data, check_verdict, write_verdict, reply, refused, check_reply, check_room, write_reply, write_room}
 use Rattle.health.specs.Packet.{packet_crc}
 use Rattle.health.specs.Writing.{written_crc}
@@ -28,11 +29,11 @@ writes : (write_reply 1 9 ≡ wrote 0 9) × (write_room (0x8000 ∷ []) (replica
 unfolding answer settled put write_reply write_room write_verdict unit_of parity_words row_word column_word row_parity column_parity bit_from number xor_all
 writes = (refl, refl)
 
-repairs : (check_reply (unit 0 0 0x8000) 1 ≡ reply 0 2 0 15 1) × (check_room (unit 0 0 0x8000) (0xFFFF ∷ []) ≡ 0 ∷ [])
+repairs : (check_reply (unit 0 0 0x8000) 1 ≡ reply 0 DataBit 0 15 1) × (check_room (unit 0 0 0x8000) (0xFFFF ∷ []) ≡ 0 ∷ [])
 unfolding answer put check_reply check_room check_verdict unit_data flipped finding five_cases first_of sum_all row_differs column_differs row_parity column_parity bit_from xor_all
 repairs = (refl, refl)
 
-stands : (check_reply (unit 0x4000 0 0) 1 ≡ reply 0 1 0 14 1) × (check_room (unit 0x4000 0 0) (0xFFFF ∷ []) ≡ 0 ∷ [])
+stands : (check_reply (unit 0x4000 0 0) 1 ≡ reply 0 ParityBit 0 14 1) × (check_room (unit 0x4000 0 0) (0xFFFF ∷ []) ≡ 0 ∷ [])
 unfolding answer put check_reply check_room check_verdict unit_data flipped finding five_cases first_of sum_all row_differs column_differs row_parity column_parity bit_from xor_all
 stands = (refl, refl)
 

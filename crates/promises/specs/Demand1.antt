@@ -111,6 +111,7 @@ pub record Total : Type 0 where
   pub is_chunk : Determined chunk.is_chunk
   pub is_at_end : Determined chunk.is_at_end
   pub next_chunk : Determined chunk.next
+  pub chunks : Determined chunk.chunks
   pub refused_survey : Determined chunk.refused
   pub count_chunks : Determined chunk.count
   pub is_listed : Determined chunk.is_listed
@@ -119,6 +120,7 @@ pub record Total : Type 0 where
   pub sound_at : Determined health.sound_at
   pub starts : Determined frame.starts
   pub next_piece : Determined frame.next
+  pub pieces : Determined frame.pieces
   pub empty_tally : Determined tally.empty
   pub tally_numbers : Determined tally.numbers
   pub tally_from_numbers : Determined tally.from_numbers

@@ -4,6 +4,7 @@ use Rattle.base.specs.Refusal.{wrote}
 use Rattle.chunk.specs.Header.{legal_size, legal}
 use Rattle.chunk_reading.specs.Counting.{surveyed, survey_reply}
 use Rattle.crc.specs.Crc.{crc_words}
+use Rattle.parity.specs.declared.Case.TheVariants.{ParityBit, DataBit}
 use Rattle.parity.specs.Unit.{reply, refused, check_reply, check_room, write_reply, write_room}
 use Rattle.health.specs.Writing.{packet_from}
 use Rattle.health_upsets.specs.Upsets.{upset, upset_table, upsets_reply}
@@ -43,9 +44,9 @@ pub record Examples : Type 0 where
   -- k = 1, data 8000h: parity words 0 and 4 are 8000h, others 0
   pub four : (write_reply 1 9 ≡ wrote 0 9) × (write_room (0x8000 ∷ []) (replicate 9 0xFFFF) ≡ unit 0x8000 0x8000 0x8000)
   -- the same data with all parity 0: repaired to 0, word 0 bit 15
-  pub five : (check_reply (unit 0 0 0x8000) 1 ≡ reply 0 2 0 15 1) × (check_room (unit 0 0 0x8000) (0xFFFF ∷ []) ≡ 0 ∷ [])
+  pub five : (check_reply (unit 0 0 0x8000) 1 ≡ reply 0 DataBit 0 15 1) × (check_room (unit 0 0 0x8000) (0xFFFF ∷ []) ≡ 0 ∷ [])
   -- k = 1, data 0, parity word 0 = 4000h only: data as they stand
-  pub six : (check_reply (unit 0x4000 0 0) 1 ≡ reply 0 1 0 14 1) × (check_room (unit 0x4000 0 0) (0xFFFF ∷ []) ≡ 0 ∷ [])
+  pub six : (check_reply (unit 0x4000 0 0) 1 ≡ reply 0 ParityBit 0 14 1) × (check_room (unit 0x4000 0 0) (0xFFFF ∷ []) ≡ 0 ∷ [])
   -- as before with parity word 4 = 8000h too: refusal 6
   pub seven : (check_reply (unit 0x4000 0x8000 0) 1 ≡ refused 6) × (check_room (unit 0x4000 0x8000 0) (0xFFFF ∷ []) ≡ 0xFFFF ∷ [])
   -- CRC from register 0 of word 0001h is 1021h, of 0002h is 2042h

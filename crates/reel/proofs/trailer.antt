@@ -1,1 +1,1 @@
-mod Agreeing
+pub mod Agreeing

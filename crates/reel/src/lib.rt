@@ -10,7 +10,8 @@ ghost use Rattle.reel.specs.Reading.{refused, read_reply};
 
 use base::{Words, limit, refusal};
 
-// What the reader answers: the words of the recording, and the number of entries.
+// What the reader answers: the words of the recording, and the number of entries. A refusal has its number and zeros: `Demand1` says so of this answer, so it
+// is no Result.
 #[derive(Clone, Copy)]
 pub struct Reel {
     pub refusal: u8,
@@ -29,21 +30,21 @@ fn refused(number: u8) -> Reel
 }
 
 // Reads a reel: it is accepted where its trailer tells the truth and its entries are those of a fresh reading.
+#[tactic(auto, using(crate::proofs::Reading::reader))]
 pub fn read(reel: &[u16], sync: u16) -> Reel
     ensures { result ≡ read_reply sync reel.now }
 {
-    let length = reel.len();
-    if length < layout::TRAILER.0 {
+    let Some(trailer) = trailer::trailer_of(reel) else {
         return refused(refusal::LENGTH);
-    }
+    };
+    let length = reel.len();
     if layout::MOST.0 < length {
         return refused(refusal::LENGTH);
     }
-    let trailer = trailer::trailer_of(reel);
     if !trailer::agrees(reel, trailer) {
         return refused(refusal::REEL);
     }
-    let n = trailer.n.0;
+    let n = usize::from(trailer.n);
     if limit::REEL_RECORDING.0 < n {
         return refused(refusal::REEL);
     }
@@ -54,6 +55,6 @@ pub fn read(reel: &[u16], sync: u16) -> Reel
     Reel {
         refusal: 0,
         n: Words(n),
-        entries: trailer.count,
+        entries: usize::from(trailer.count),
     }
 }

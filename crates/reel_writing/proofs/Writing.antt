@@ -14,6 +14,8 @@ use Rattle.base_room.specs.Room.{put}
 use Rattle.base.proofs.Refused.{spared, answer-no, answer-yes}
 use Rattle.base_room.proofs.RoomLaws.{put-put, put-length}
 use Rattle.chunk.specs.Reading.{reading}
+use Rattle.chunk_reading.specs.declared.Counts.{Counts}
+use Rattle.chunk_reading.specs.Counting.{count_reply}
 use Rattle.reel.specs.Layout.{entry_width, shortest_chunk, index_words, trailer, tail_words, reel_words, reel_of}
 use Rattle.reel_writing.specs.Writing.{reel_length, write_causes, write_reply, write_room}
 use Rattle.reel.proofs.Fewest.{few-chunks}
@@ -65,7 +67,18 @@ module _ (sync : ℕ) (ws : List ℕ) (m : ℕ) (h : length ws ≤ reel_limit) w
       let n : reel_length sync ws ≤ m = omega (arith, few-chunks sync ws) in
       ap (λ (b : Bool). cond b no_room 0) (sym (le-ltb m (reel_length sync ws) n)) ∙ room-compared (reel_length sync ws) refl
 
+  pub few-enough : length (reading sync ws) ≤ length ws
+  few-enough = omega (arith, few-chunks sync ws)
+
+  pub needed-compared : {s : Counts} {n : ℕ} → s ≡ count_reply sync ws → n ≡ reel_words (length ws) s.chunks → cond (ltb m n) no_room 0 ≡ verdict (write_causes sync ws m)
+  needed-compared e en = room-compared _ (en ∙ ap (λ (s : Counts). reel_words (length ws) s.chunks) e)
+
+pub ruleset judging = (too-long-refused, room-enough, few-enough, needed-compared)
+
 -- ---- what is written
+
+pub few-counted : (sync : ℕ) (ws : List ℕ) {count : ℕ} → count ≡ length (reading sync ws) → count ≤ length ws
+few-counted sync ws ek = omega (arith, ek, few-chunks sync ws)
 
 module _ (sync : ℕ) (ws room : List ℕ) (v : ℕ) (e : v ≡ verdict (write_causes sync ws (length room))) where
   pub refused-reply : (v ≡ 0 → ⊥) → settled v 0 ≡ write_reply sync ws (length room)
@@ -92,3 +105,21 @@ module _ (sync : ℕ) (ws room : List ℕ) (v : ℕ) (e : v ≡ verdict (write_c
     pub accepted-written : (c : List ℕ) → c ≡ put (reel_of sync ws) 0 room → c ≡ write_room sync ws room
     unfolding write_room
     accepted-written c ec = ec ∙ sym (answer-yes _ _ _ (sym e ∙ z))
+
+    pub replied : (n count : ℕ) → count ≡ length (reading sync ws) → n ≡ reel_words (length ws) count → settled 0 n ≡ write_reply sync ws (length room)
+    replied n count ek en = accepted-reply n (en ∙ ap (reel_words (length ws)) ek)
+
+    -- the room with the recording a, and then with its entries b
+    pub entries-fit : {a : List ℕ} → a ≡ put ws 0 room → length ws + entry_width * length (reading sync ws) ≤ length a
+    entries-fit ea = omega (arith, accepted-fits, ap length ea, put-length ws 0 room)
+
+    pub trailer-fits : {a b : List ℕ} {count : ℕ} → a ≡ put ws 0 room → b ≡ put (index_words (reading sync ws)) (length ws) a → count ≡ length (reading sync ws)
+        → reel_words (length ws) count ≤ length b
+    trailer-fits {a} ea eb ek = omega (arith, ek, accepted-fits, ap length ea, put-length ws 0 room, ap length eb, put-length (index_words (reading sync ws)) (length ws) a)
+
+    pub written : {a b : List ℕ} {count : ℕ} (c : List ℕ) → a ≡ put ws 0 room → b ≡ put (index_words (reading sync ws)) (length ws) a → count ≡ length (reading sync ws)
+        → c ≡ put (trailer (take (entry_width * count) (drop (length ws) b)) count (length ws)) (length ws + entry_width * count) b
+        → c ≡ write_room sync ws room
+    written {a} {b} {count} c ea eb ek ec = accepted-written c (reel-put sync ws room a b c count accepted-fits ek ea eb ec)
+
+pub ruleset writer = (refused-reply, refused-untouched, accepted-short, few-counted, replied, entries-fit, trailer-fits, written)

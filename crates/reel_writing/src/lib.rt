@@ -9,10 +9,13 @@ ghost use Rattle.base.specs.Refusal.{verdict};
 ghost use Rattle.reel_writing.specs.Writing.{write_causes, write_reply, write_room};
 
 use base::{Words, Written, limit, refusal};
+use chunk::header;
 use chunk_reading::counting;
-use reel::layout;
+use trailer::Content;
 
-// The refusal number, for a room of so many words. One that has room for the most entries that there can be needs no count of them.
+// The refusal number, for a room of so many words: it is the answer's (`Demand1`). One that has room for the most entries that there can be needs no count of
+// them.
+#[tactic(auto, using(crate::proofs::Writing::judging))]
 fn judge(recording: &[u16], sync: u16, room: Words) -> u8
     ensures { result ≡ verdict (write_causes sync recording.now room.0) }
 {
@@ -20,15 +23,17 @@ fn judge(recording: &[u16], sync: u16, room: Words) -> u8
         return refusal::LENGTH;
     }
     let n = Words(recording.len());
-    let most = n.0 / layout::SHORTEST_CHUNK.0;
-    if trailer::reel_words(n, most).0 <= room.0 {
+    let most = n.0 / header::SHORTEST.0;
+    if (Content { n, count: most }).reel_words().0 <= room.0 {
         return 0;
     }
-    let needed = trailer::reel_words(n, counting::count(recording, sync).chunks);
+    let count = counting::count(recording, sync).chunks;
+    let needed = Content { n, count }.reel_words();
     refusal::cause(refusal::ROOM, room.0 < needed.0, 0)
 }
 
 // Writes the reel of a recording into lent room.
+#[tactic(auto, using(crate::proofs::Writing::writer))]
 pub fn write(recording: &[u16], sync: u16, room: &mut [u16]) -> Written
     ensures value { result ≡ write_reply sync recording.now (length room.old) }
     ensures room_after { room.new ≡ write_room sync recording.now room.old }
@@ -38,8 +43,9 @@ pub fn write(recording: &[u16], sync: u16, room: &mut [u16]) -> Written
         return refusal::settle(verdict, Words(0));
     }
     let n = Words(recording.len());
-    base_room::put_words(recording, room, Words(0));
+    base_room::put(recording, room, 0);
     let count = index::write(recording, sync, room);
-    trailer::put_trailer(room, n, count);
-    refusal::settle(0, trailer::reel_words(n, count))
+    let content = Content { n, count };
+    content.put_trailer(room);
+    refusal::settle(0, content.reel_words())
 }

@@ -7,23 +7,33 @@ ghost use Rattle.reel.specs.Layout.{entry_width, reel_words, trailer};
 use base::Words;
 use reel::layout;
 
-// The words of a reel.
-pub fn reel_words(n: Words, count: usize) -> Words
-    requires { (n.0 ≤ reel_limit) × (count ≤ n.0) }
-    ensures { result.0 ≡ reel_words n.0 count }
-{
-    Words(n.0 + layout::ENTRY.0 * count + layout::TRAILER.0)
+// What stands on a reel: a recording of n words within its limit, and fewer entries than words.
+#[derive(Clone, Copy)]
+pub struct Content {
+    pub n: Words,
+    pub count: usize,
+    ghost few: { (n.0 ≤ reel_limit) × (count ≤ n.0) },
 }
 
-// The trailer after a recording of n words and its entries, all of which stand in the room.
-pub fn put_trailer(room: &mut [u16], n: Words, count: usize)
-    requires { (n.0 ≤ reel_limit) × (count ≤ n.0) × (reel_words n.0 count ≤ length room.old) }
-    ensures { room.new ≡ put (trailer (take (entry_width * count) (drop n.0 room.old)) count n.0) (n.0 + entry_width * count) room.old }
-{
-    let first = n.0;
-    let at = first + layout::ENTRY.0 * count;
-    base_room::put_words(&[count as u16, first as u16], room, Words(at));
-    let covered = at + 2;
-    let crc = crc::words(crc::START, &room[first..covered]);
-    base_room::put_words(&[crc, layout::EDITION], room, Words(covered));
+impl Content {
+    // The words of the reel.
+    pub fn reel_words(self) -> Words
+        ensures { result.0 ≡ reel_words self.n.0 self.count }
+    {
+        Words(self.n.0 + layout::ENTRY.0 * self.count + layout::TRAILER.0)
+    }
+
+    // The trailer after the recording and its entries, all of which stand in the room. `as`, since both numbers are below the limit.
+    #[tactic(auto, using(crate::proofs::trailer::Putting::trailer_put))]
+    pub fn put_trailer(self, room: &mut [u16])
+        requires { reel_words self.n.0 self.count ≤ length room.old }
+        ensures { room.new ≡ put (trailer (take (entry_width * self.count) (drop self.n.0 room.old)) self.count self.n.0) (self.n.0 + entry_width * self.count) room.old }
+    {
+        let first = self.n.0;
+        let at = first + layout::ENTRY.0 * self.count;
+        base_room::put(&[self.count as u16, first as u16], room, at);
+        let covered = at + 2;
+        let crc = crc::words(crc::START, &room[first..covered]);
+        base_room::put(&[crc, layout::EDITION], room, covered);
+    }
 }

@@ -4,49 +4,42 @@
 
 mod lines;
 
-use program_files::{ROOM, WORDS};
-use program_output::{OUTPUT, Out, PAGE};
+use program_files::{ROOM, Unheard, WORDS};
+use program_output::{OUTPUT, Out, Printer};
 use tally_counts::Tally;
 
-// The tally with the file that an argument names. A file that is not taken is told, and the tally stays as it is.
-fn with_file(rt: HostRuntime, tally: Tally, argument: usize) -> Tally {
+// The tally with the file that an argument names, or why it is not taken.
+fn with_file(rt: HostRuntime, tally: Tally, argument: usize) -> Result<Tally, Unheard> {
     let mut bytes = [0u8; ROOM.0];
     let mut words = [0u16; WORDS.0];
-    let heard = program_files::hear(rt, argument, &mut bytes, &mut words);
-    if heard.failed {
-        lines::unread(rt, argument);
-        return tally;
-    }
-    if heard.refusal != 0 {
-        lines::refused(rt, argument, heard.refusal);
-        return tally;
-    }
-    let sync = words[0];
-    let end = heard.end.0;
-    let next = tally_counts::added(tally, &words[1..end], sync);
+    let end = program_files::hear(rt, argument, &mut bytes, &mut words)?.0;
+    let next = tally_counts::added(tally, &words[1..end], words[0]);
     if next.refusal != 0 {
-        lines::refused(rt, argument, next.refusal);
-        return tally;
+        return Err(Unheard::Refused(next.refusal));
     }
-    next.tally
+    Ok(next.tally)
 }
 
-// The tally over all files, of so many arguments. The first argument, the program's own name, is no file.
-fn over_files(rt: HostRuntime, arguments: usize) -> Tally {
+// The tally over all files. The first argument, the program's own name, is no file. A file that is not taken is told, and the tally stays as it is.
+fn over_files(rt: HostRuntime) -> Tally {
     let mut tally = tally_counts::empty();
-    let mut left = arguments;
-    while 1 < left {
-        left -= 1;
-        tally = with_file(rt, tally, arguments - left);
+    for argument in 1..program_files::arguments(rt) {
+        match with_file(rt, tally, argument) {
+            Ok(next) => tally = next,
+            Err(why) => lines::not_taken(rt, argument, why),
+        }
     }
     tally
 }
 
 fn main(rt: HostRuntime) {
-    let tally = over_files(rt, program_files::arguments(rt));
-    let mut page = [0u8; PAGE.0];
-    let out = lines::numbers(Out::to(OUTPUT), rt, &mut page, tally);
-    if out.flush(rt, &page).failed {
+    let tally = over_files(rt);
+    let mut out = Printer {
+        rt,
+        out: Out::to(OUTPUT),
+    };
+    lines::numbers(&mut out, tally);
+    if out.flush().is_err() {
         program_output::complain(rt, b"tally: standard output cannot be written\n");
     }
 }

@@ -13,7 +13,7 @@ use Rattle.tally_recording.specs.Numbers.{sums, any_past}
 use Rattle.tally_recording.specs.Tally.{chunk_numbers, packet_numbers, unit_numbers, tally_of}
 use Rattle.tally_recording.specs.Replies.{counted, refused, of_reply}
 use Rattle.tally_recording.proofs.Rows.{each-length}
-use Rattle.tally_recording.proofs.Answers.{of-refused, taken}
+use Rattle.tally_recording.proofs.Answers.{of_refused, taken}
 use Rattle.tally_counts.specs.Numbers.{Rows, numbers_of, plus, tally_from}
 use Rattle.tally_counts.specs.Adding.{added_reply}
 use Rattle.tally_counts.proofs.Thirty.{sums-numbers, tally-sums}
@@ -27,14 +27,14 @@ module _ (sync : ℕ) (ws : List ℕ) where
     pub added-length : (one.refusal ≡ 0 → ⊥) → one ≡ added_reply t sync ws
     unfolding added_reply answer
     added-length h =
-        by-test (too_long ws) (λ l. e ∙ sym (of-refused sync ws l) ∙ rw l)
+        by-test (too_long ws) (λ l. e ∙ sym (of_refused sync ws l) ∙ rw l)
         (λ l. absurd (h (ap (λ (x : Counted). x.refusal) (e ∙ sym (taken sync ws l)))))
 
     module _ (z : one.refusal ≡ 0) where
       short : too_long ws ≡ false
       short =
           by-test (too_long ws)
-          (λ l. let x : one.refusal ≡ wrong_length = ap (λ (x : Counted). x.refusal) (e ∙ sym (of-refused sync ws l)) in absurd (omega (arith, x, z)))
+          (λ l. let x : one.refusal ≡ wrong_length = ap (λ (x : Counted). x.refusal) (e ∙ sym (of_refused sync ws l)) in absurd (omega (arith, x, z)))
           (λ l. l)
 
       counts : one.tally ≡ tally_of sync ws

@@ -7,7 +7,6 @@ ghost use Rattle.std.specs.Prelude.{◌≡◌};
 ghost use Rattle.base.specs.Refusal.{verdict};
 ghost use Rattle.tally_counts.specs.Numbers.{numbers_of, tally_from};
 ghost use Rattle.tally_counts.specs.Adding.{add_causes, added_reply, added_tally};
-ghost use Rattle.tally_counts.specs.Walk.{kept_tally};
 
 use base::refusal;
 pub use tally_recording::{Counted, Tally, empty, of};
@@ -15,7 +14,8 @@ pub use tally_recording::{Counted, Tally, empty, of};
 // how many numbers a tally has
 pub const NUMBERS: usize = 30;
 
-// The numbers of a tally, in order.
+// The numbers of a tally, in order: written out, since rows copied to parts of an array show the order no plainer.
+#[tactic(auto, unfolding(crate::specs::Numbers::numbers_of))]
 pub fn numbers(tally: Tally) -> [u32; NUMBERS]
     ensures { result ≡ numbers_of tally }
 {
@@ -57,6 +57,7 @@ pub fn numbers(tally: Tally) -> [u32; NUMBERS]
 }
 
 // The tally that has these numbers, as a caller kept them.
+#[tactic(auto, unfolding(crate::specs::Numbers::tally_from, tally_recording::specs::Numbers::each))]
 pub fn from_numbers(n: [u32; NUMBERS]) -> Tally
     ensures { result ≡ tally_from n }
 {
@@ -76,7 +77,7 @@ pub fn from_numbers(n: [u32; NUMBERS]) -> Tally
     }
 }
 
-// A tally with one recording more. All thirty sums are tested before one is taken.
+// A tally with one recording more, where all thirty sums are numbers of a tally.
 pub fn added(tally: Tally, recording: &[u16], sync: u16) -> Counted
     ensures { result ≡ added_reply tally sync recording.now }
 {
@@ -84,35 +85,28 @@ pub fn added(tally: Tally, recording: &[u16], sync: u16) -> Counted
     if one.refusal != 0 {
         return one;
     }
-    let old = numbers(tally);
-    let new = numbers(one.tally);
-    if sum::passes(old, new) {
-        return Counted {
+    match sum::sums(numbers(tally), numbers(one.tally)) {
+        Some(all) => Counted {
+            refusal: 0,
+            tally: from_numbers(all),
+        },
+        None => Counted {
             refusal: refusal::UNSPECIFIED,
             tally: empty(),
-        };
-    }
-    Counted {
-        refusal: 0,
-        tally: from_numbers(sum::sums(old, new)),
+        },
     }
 }
 
-// The tally that is kept: the new one, or, where that was refused, the old.
-fn kept(old: Tally, next: Counted) -> Tally
-    ensures { result ≡ kept_tally old next }
-{
-    let new = next.tally;
-    if next.refusal == 0 { new } else { old }
-}
-
-// One recording more to the caller's tally, which a refusal leaves as it is.
+// One recording more to the caller's tally, which a refusal leaves as it is. This form, over `added`, is named in docs/PROMISES.md, "Where each form
+// goes".
+#[tactic(auto, using(crate::proofs::Keeping::added_number, crate::proofs::Keeping::taken, crate::proofs::Keeping::left))]
 pub fn add(tally: &mut Tally, recording: &[u16], sync: u16) -> u8
     ensures reply { result ≡ verdict (add_causes tally.old sync recording.now) }
     ensures tally { tally.new ≡ added_tally tally.old sync recording.now }
 {
-    let old = *tally;
-    let next = added(old, recording, sync);
-    *tally = kept(old, next);
+    let next = added(*tally, recording, sync);
+    if next.refusal == 0 {
+        *tally = next.tally;
+    }
     next.refusal
 }

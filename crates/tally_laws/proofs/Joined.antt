@@ -11,10 +11,10 @@ use lib.ListN.{length, get_or, drop}
 use lib.Seq.{drop-drop, get_or-drop}
 use lib.Dec.{eqb}
 use borrow.Author.Tests.{ne_eqb, eqb-true, eqb-false}
+use Rattle.std.specs.Prelude.{Option, Some, None}
 use Rattle.base.proofs.Booleans.{and_right, by-test}
+use Rattle.base.specs.declared.Words.{Words}
 use Rattle.chunk.specs.declared.Entry.{Entry}
-use Rattle.chunk.specs.declared.Found.{Found}
-use Rattle.chunk.specs.declared.Found.TheVariants.{Chunk, End}
 use Rattle.chunk.specs.Header.{size, kind, span}
 use Rattle.chunk.specs.Reading.{listed, next_from, listed_words}
 use Rattle.chunk.specs.Moved.{moved}
@@ -106,7 +106,7 @@ module _ (sync : ℕ) (ws : List ℕ) where
   abbrev Told : ℕ → Type 0
   Told p = how_often is_stray (pieces_from sync ws p) + joined_in sync ws (pieces_from sync ws p) ≡ carries_from sync ws p
 
-  at_last : (p : ℕ) → next_from sync ws p ≡ End → Told p
+  at_last : (p : ℕ) → next_from sync ws p ≡ None → Told p
   unfolding how_often joined_in frames_and_strays
   at_last p f = rw (none_left sync ws p f, (ended sync ws p f).lists)
 
@@ -143,7 +143,7 @@ module _ (sync : ℕ) (ws : List ℕ) where
     at-frame : starts h ≡ true → Told (at + frame_words sync (drop at ws)) → Told p
     unfolding how_often joined_in
     at-frame s more =
-        let x : Says sync ws p (frame_there sync ws at) = subst (Says sync ws p) (frame-next sync ws p e (past e) n s) (pieces-said.says sync ws p) in
+        let x : Says sync ws p (Some (frame_there sync ws at)) = subst (Says sync ws p) (frame-next sync ws p e (past e) n s) (pieces-said.says sync ws p) in
         rw (x.first (λ z. omega arith), (x.is_frame refl).0) (omega (arith, more, frame-carries s))
 
     frame-ahead : starts h ≡ true → p + 1 ≤ at + frame_words sync (drop at ws)
@@ -158,9 +158,9 @@ module _ (sync : ℕ) (ws : List ℕ) where
         (λ s. at-stray (eqb-true (kind h) 0 k) s (more (past e) (omega (arith, n.ahead)))))
         (λ k. at-health (eqb-false (kind h) 0 k) (more (past e) (omega (arith, n.ahead))))
 
-  by-found : (k p : ℕ) → length ws ≤ p + suc k → ((q : ℕ) → length ws ≤ q + k → Told q) → (f : Found) → next_from sync ws p ≡ f → Told p
-  by-found k p l more End f = at_last p f
-  by-found k p l more (Chunk e next) f =
+  by-found : (k p : ℕ) → length ws ≤ p + suc k → ((q : ℕ) → length ws ≤ q + k → Told q) → (f : Option (Entry × Words)) → next_from sync ws p ≡ f → Told p
+  by-found k p l more None f = at_last p f
+  by-found k p l more (Some (e, next)) f =
       let s = stepped sync ws p e next f in
       at-chunk p e (subst (Next sync ws p e) s.end s) (λ q m. more q (omega arith))
 

@@ -17,7 +17,7 @@ use Rattle.tally_counts.specs.Numbers.{Rows, numbers_of, plus}
 use Rattle.tally_counts.specs.Adding.{add_causes, added_reply}
 use Rattle.tally_recording.proofs.Rows.{none-past}
 use Rattle.tally_counts.proofs.Answers.{rows_of}
-use Rattle.tally_counts.proofs.Keeping.{added-number}
+use Rattle.tally_counts.proofs.Keeping.{added_number}
 use Rattle.tally_laws.specs.Refusals.{number_at, Passes, Fits, SevenExactly, Agree, AddGivesAdded}
 use Rattle.tally_laws.proofs.Rows.{past-place, places-fit, rows-plus, thirty, plus-at}
 use Rattle.tally_laws.proofs.Adding.{accepted, accepts, added-sum, added-kept}
@@ -84,7 +84,7 @@ module _ (t : Tally) (sync : ℕ) (ws : List ℕ) where
   given = counted 0 (plus t (tally_of sync ws))
 
   abbrev number : (added_reply t sync ws).refusal ≡ v
-  number = added-number t sync ws
+  number = added_number t sync ws (added_reply t sync ws) refl
 
   agree : Agree t sync ws
   unfolding added_reply

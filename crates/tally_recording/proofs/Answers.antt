@@ -14,9 +14,9 @@ use Rattle.tally_recording.specs.Replies.{counted, refused, of_reply}
 use Rattle.tally_recording.specs.Walk.{listed_of, framed_of}
 
 module _ (sync : ℕ) (ws : List ℕ) where
-  pub of-refused : too_long ws ≡ true → refused wrong_length ≡ of_reply sync ws
+  pub of_refused : too_long ws ≡ true → refused wrong_length ≡ of_reply sync ws
   unfolding of_reply answer
-  of-refused t = rw t
+  of_refused t = rw t
 
   pub taken : too_long ws ≡ false → counted 0 (tally_of sync ws) ≡ of_reply sync ws
   unfolding of_reply answer
@@ -37,6 +37,6 @@ module _ (sync : ℕ) (ws : List ℕ) where
         units = l.units;
       }
 
-  pub of-taken : too_long ws ≡ false → (l : Listed) → l ≡ listed_of sync ws → (f : Framed) → f ≡ framed_of sync ws → counted 0 (joined l f) ≡ of_reply sync ws
+  pub of_taken : too_long ws ≡ false → (l : Listed) → l ≡ listed_of sync ws → (f : Framed) → f ≡ framed_of sync ws → counted 0 (joined l f) ≡ of_reply sync ws
   unfolding tally_of
-  of-taken t l e f g = ap₂ (λ (x : Listed) (y : Framed). counted 0 (joined x y)) e g ∙ taken t
+  of_taken t l e f g = ap₂ (λ (x : Listed) (y : Framed). counted 0 (joined x y)) e g ∙ taken t

@@ -5,6 +5,7 @@ use mathlib.Core.List.{List, [], ◌∷◌}
 use Prim.Native.Nat.{ℕ, suc, ◌+◌, ◌≤◌}
 use native.Mathlib.Omega.{arith}
 use lib.ListN.{get_or, drop}
+use Rattle.std.specs.Prelude.{Some, None}
 use Rattle.base.specs.declared.Words.{Words}
 use Rattle.base.specs.Limit.{too_long, recording_limit}
 use Rattle.chunk.specs.declared.Entry.{Entry}
@@ -28,9 +29,6 @@ pub record Framing (sync : ℕ) (ws : List ℕ) (whole cut strays at : ℕ) : Ty
   pub lone : strays + how_often is_stray (pieces_from sync ws at) ≡ how_often is_stray (pieces_of sync ws)
 
 module _ (sync : ℕ) (ws : List ℕ) where
-  pub none-framed : Framing sync ws 0 0 0 0
-  none-framed = record { wholes = omega arith; cuts = omega arith; lone = omega arith }
-
   -- the first of the frames and strays and the others
   often-first : (test : Entry → Bool) (at : ℕ) (e : Entry) (n : ℕ) → pieces_from sync ws at ≡ e ∷ pieces_from sync ws n → (b : Bool) → test e ≡ b
       → how_often test (pieces_from sync ws at) ≡ cond b 1 0 + how_often test (pieces_from sync ws n)
@@ -38,11 +36,11 @@ module _ (sync : ℕ) (ws : List ℕ) where
   often-first test at e n l b t = ap (how_often test) l ∙ ap (λ (x : Bool). cond x 1 0 + how_often test (pieces_from sync ws n)) t
 
   module _ (whole cut strays at : ℕ) (c : Framing sync ws whole cut strays at) where
-    module _ (p : Words) (d : Description) (end : Words) (q : next_piece sync ws at ≡ Piece.Frame p d end) where
-      frame-says : Says sync ws at (Piece.Frame p d end)
+    module _ (p : Words) (d : Description) (end : Words) (q : next_piece sync ws at ≡ Some (Piece.Frame p d end)) where
+      frame-says : Says sync ws at (Some (Piece.Frame p d end))
       frame-says = subst (Says sync ws at) q (pieces-said.says sync ws at)
 
-      lists : pieces_from sync ws at ≡ piece_entry ws (Piece.Frame p d end) ∷ pieces_from sync ws end.0
+      lists : pieces_from sync ws at ≡ piece_entry ws (Some (Piece.Frame p d end)) ∷ pieces_from sync ws end.0
       lists = frame-says.first (λ z. omega (arith, z))
 
       begins : starts (get_or ws (suc p.0) 0) ≡ true
@@ -64,11 +62,11 @@ module _ (sync : ℕ) (ws : List ℕ) where
         pub frame-fits : too_long ws ≡ false → (whole + x ≤ recording_limit) × (cut + y ≤ recording_limit)
         frame-fits h = (omega (arith, frame-framed.wholes, pieces-fit sync ws h (is_complete sync ws)), omega (arith, frame-framed.cuts, pieces-fit sync ws h (is_cut sync ws)))
 
-    module _ (e : Entry) (end : Words) (q : next_piece sync ws at ≡ Piece.Stray e end) where
-      stray-says : Says sync ws at (Piece.Stray e end)
+    module _ (e : Entry) (end : Words) (q : next_piece sync ws at ≡ Some (Piece.Stray e end)) where
+      stray-says : Says sync ws at (Some (Piece.Stray e end))
       stray-says = subst (Says sync ws at) q (pieces-said.says sync ws at)
 
-      stray-lists : pieces_from sync ws at ≡ piece_entry ws (Piece.Stray e end) ∷ pieces_from sync ws end.0
+      stray-lists : pieces_from sync ws at ≡ piece_entry ws (Some (Piece.Stray e end)) ∷ pieces_from sync ws end.0
       stray-lists = stray-says.first (λ z. omega (arith, z))
 
       no-frame : starts (get_or ws (suc e.position.0) 0) ≡ false
@@ -85,7 +83,7 @@ module _ (sync : ℕ) (ws : List ℕ) where
       pub stray-fits : too_long ws ≡ false → strays + 1 ≤ recording_limit
       stray-fits h = omega (arith, stray-framed.lone, pieces-fit sync ws h is_stray)
 
-    module _ (q : next_piece sync ws at ≡ Piece.End) where
+    module _ (q : next_piece sync ws at ≡ None) where
       none_left : pieces_from sync ws at ≡ []
       none_left = (subst (Says sync ws at) q (pieces-said.says sync ws at)).none refl
 

@@ -39,8 +39,9 @@ no-units a h = sums-zeros a 0 4 h
 
 -- ---- a payload
 
-module _ (a : List ℕ) (us : List (List ℕ)) (h : length a ≡ 4) where
-  pub unit-fits : any_past (sums a (unit_numbers us)) ≡ false → (k : ℕ) → k < 4 → get_or a k 0 + how_many k us ≤ largest
+module _ (a : List ℕ) (us : List (List ℕ)) (h : length a ≡ 4) (o : Outcomes) (e : o ≡ outcomes us) where
+  -- a number and the units of its outcome do not pass the largest
+  unit-fits : any_past (sums a (unit_numbers us)) ≡ false → (k : ℕ) → k < 4 → get_or a k 0 + how_many k us ≤ largest
   unfolding unit_numbers
   unit-fits n k l =
       let z : 0 + k ≡ k = omega arith in
@@ -52,10 +53,34 @@ module _ (a : List ℕ) (us : List (List ℕ)) (h : length a ≡ 4) where
         none-past (sums a (unit_numbers us)) n k,
       )
 
-  pub units-added : (o : Outcomes) → o ≡ outcomes us
-      → (get_or a 0 0 + o.sound) ∷ (get_or a 1 0 + o.hit) ∷ (get_or a 2 0 + o.repaired) ∷ (get_or a 3 0 + o.refused) ∷ [] ≡ sums a (unit_numbers us)
+  pub sound_fits : any_past (sums a (unit_numbers us)) ≡ false → get_or a 0 0 + o.sound ≤ largest
+  sound_fits n = omega (arith, unit-fits n 0 (omega arith), ap (λ (x : Outcomes). x.sound) e)
+
+  pub hit_fits : any_past (sums a (unit_numbers us)) ≡ false → get_or a 1 0 + o.hit ≤ largest
+  hit_fits n = omega (arith, unit-fits n 1 (omega arith), ap (λ (x : Outcomes). x.hit) e)
+
+  pub repaired_fits : any_past (sums a (unit_numbers us)) ≡ false → get_or a 2 0 + o.repaired ≤ largest
+  repaired_fits n = omega (arith, unit-fits n 2 (omega arith), ap (λ (x : Outcomes). x.repaired) e)
+
+  pub refused_fits : any_past (sums a (unit_numbers us)) ≡ false → get_or a 3 0 + o.refused ≤ largest
+  refused_fits n = omega (arith, unit-fits n 3 (omega arith), ap (λ (x : Outcomes). x.refused) e)
+
+  -- and so none of these counts does by itself
+  pub sound_small : any_past (sums a (unit_numbers us)) ≡ false → o.sound ≤ largest
+  sound_small n = omega (arith, sound_fits n)
+
+  pub hit_small : any_past (sums a (unit_numbers us)) ≡ false → o.hit ≤ largest
+  hit_small n = omega (arith, hit_fits n)
+
+  pub repaired_small : any_past (sums a (unit_numbers us)) ≡ false → o.repaired ≤ largest
+  repaired_small n = omega (arith, repaired_fits n)
+
+  pub refused_small : any_past (sums a (unit_numbers us)) ≡ false → o.refused ≤ largest
+  refused_small n = omega (arith, refused_fits n)
+
+  pub units_added : (get_or a 0 0 + o.sound) ∷ (get_or a 1 0 + o.hit) ∷ (get_or a 2 0 + o.repaired) ∷ (get_or a 3 0 + o.refused) ∷ [] ≡ sums a (unit_numbers us)
   unfolding unit_numbers each sums
-  units-added o e =
+  units_added =
       ap (λ (x : Outcomes). (get_or a 0 0 + x.sound) ∷ (get_or a 1 0 + x.hit) ∷ (get_or a 2 0 + x.repaired) ∷ (get_or a 3 0 + x.refused) ∷ []) e
       ∙ ap (λ (x : List ℕ). sums x (unit_numbers us)) (all-places a 4 h)
 

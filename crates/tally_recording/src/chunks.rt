@@ -1,18 +1,21 @@
 // The listed chunks of a recording, counted by kind and camera, with the packets and units in them and the words between them, in one pass.
-ghost use Rattle.std.specs.Prelude.{◌≡◌, false, ℕ, ◌+◌, ◌*◌, ◌≤◌, length, eqb};
+ghost use Rattle.std.specs.Prelude.{◌≡◌, false, ◌+◌, ◌*◌, ◌≤◌, length, MatchOption};
 ghost use Rattle.base.specs.Size.{packet_width};
 ghost use Rattle.base.specs.Limit.{too_long};
 ghost use Rattle.chunk.specs.Header.{span};
 ghost use Rattle.parity_units.specs.Split.{units_in};
-ghost use Rattle.health_places.specs.Packets.{packet_places, chunk_places, sound_of};
+ghost use Rattle.health_places.specs.Packets.{packet_places, chunk_places};
 ghost use Rattle.tally_recording.specs.Numbers.{sums, any_past};
 ghost use Rattle.tally_recording.specs.Tally.{sort, packet_numbers, unit_numbers};
-ghost use Rattle.tally_recording.specs.Walk.{chunk_unit_numbers, listed_of};
+ghost use Rattle.tally_recording.specs.Walk.{SoundNone, SoundOne, chunk_unit_numbers, listed_of};
 
 use base::Words;
 use base::size::PACKET;
-use chunk::{Entry, Found, header, search};
+use chunk::{Entry, header, search};
 use health::packet;
+
+// words of a packet, by a name of their own: a const argument may not be computed
+const PACKET_WORDS: usize = PACKET.0;
 
 // What is counted of the listed chunks.
 #[derive(Clone, Copy)]
@@ -28,24 +31,22 @@ fn sort_of(header: u16) -> usize
     ensures { result ≡ sort header }
 {
     if header::kind_of(header) == 0 {
-        return header::camera_of(header) as usize;
+        usize::from(header::camera_of(header))
+    } else {
+        4
     }
-    4
 }
 
-// The type of the sound packet at a place, 1 to 15; 0 where none is there, or one of a spare type. The CRC of a packet with a higher type
-// word is not computed.
-fn sound_type(words: &[u16], at: Words) -> u16
-    ensures { (result ≤ 15) × ((t : ℕ) → 1 ≤ t → t ≤ 15 → sound_of words.now t at.0 ≡ eqb result t) }
+// The type of the sound packet at a place, 1 to 15; none where none is there, or one of a spare type. The CRC of a packet with another type word is not
+// computed.
+#[tactic(auto, using(crate::proofs::Packets::sound_here, crate::proofs::Packets::unsound_here, crate::proofs::Packets::spare_below, crate::proofs::Packets::spare_above))]
+fn sound_type(words: &[u16], at: Words) -> Option<u16>
+    ensures { MatchOption result (SoundNone words.now at.0) (λ t. SoundOne words.now at.0 t) }
 {
-    let t = base_room::word_at(words, at);
-    if 15 < t {
-        return 0;
+    match base_room::at(words, at.0) {
+        t @ 1..=15 if packet::sound_at(words, at) => Some(t),
+        _ => None,
     }
-    if packet::sound_at(words, at) {
-        return t;
-    }
-    0
 }
 
 // The sound packets among `count` packets back to back, added by type.
@@ -55,14 +56,12 @@ fn row_packets(packets: [u32; 15], words: &[u16], from: Words, count: usize) -> 
     ensures { result ≡ sums packets (packet_numbers words.now (packet_places count from.0)) }
 {
     let mut all = packets;
-    let mut i = 0;
-    while i < count {
-        let t = sound_type(words, Words(from.0 + PACKET.0 * i)) as usize;
-        if 0 < t {
-            let place = t - 1;
-            all[place] = all[place] + 1;
+    let end = from.0 + PACKET.0 * count;
+    let (row, _) = words[from.0..end].as_chunks::<PACKET_WORDS>();
+    for packet in row {
+        if let Some(t) = sound_type(packet, Words(0)) {
+            all[usize::from(t) - 1] += 1;
         }
-        i += 1;
     }
     all
 }
@@ -84,17 +83,19 @@ fn chunk_packets(packets: [u32; 15], words: &[u16], chunk: Entry) -> [u32; 15]
     )
 }
 
-// The units of a payload, added by outcome.
+// The units of a payload, added by outcome. `as` narrows here and below, where `try_from` would give an error that cannot be: that each number fits is proved.
+#[tactic(auto, using(crate::proofs::Units::sound_fits, crate::proofs::Units::hit_fits, crate::proofs::Units::repaired_fits, crate::proofs::Units::refused_fits, crate::proofs::Units::sound_small, crate::proofs::Units::hit_small, crate::proofs::Units::repaired_small, crate::proofs::Units::refused_small, crate::proofs::Units::units_added))]
 fn payload_units(units: [u32; 4], payload: &[u16]) -> [u32; 4]
     requires { any_past (sums units (unit_numbers (units_in payload.now))) ≡ false }
     ensures { result ≡ sums units (unit_numbers (units_in payload.now)) }
 {
     let outcomes = parity_units::count(payload);
+    let [sound, hit, repaired, refused] = units;
     [
-        units[0] + outcomes.sound as u32,
-        units[1] + outcomes.hit as u32,
-        units[2] + outcomes.repaired as u32,
-        units[3] + outcomes.refused as u32,
+        sound + outcomes.sound as u32,
+        hit + outcomes.hit as u32,
+        repaired + outcomes.repaired as u32,
+        refused + outcomes.refused as u32,
     ]
 }
 
@@ -122,25 +123,20 @@ pub fn count(words: &[u16], sync: u16) -> Listed
     let mut packets = [0u32; 15];
     let mut units = [0u32; 4];
     let mut at = 0;
-    loop {
-        let found = search::next(words, sync, Words(at));
-        let Found::Chunk(entry, next) = found else {
-            let last = (words.len() - at) as u32;
-            return Listed {
-                skipped: skipped + last,
-                chunks,
-                packets,
-                units,
-            };
-        };
-        let begins = entry.position.0;
+    for (entry, past) in search::chunks(words, sync) {
+        skipped += (entry.position.0 - at) as u32;
         let place = sort_of(entry.header);
-        skipped += (begins - at) as u32;
-        chunks[place] = chunks[place] + 1;
+        chunks[place] += 1;
         let counted = chunk_packets(packets, words, entry);
         let judged = chunk_units(units, words, entry);
         packets = counted;
         units = judged;
-        at = next.0;
+        at = past.0;
+    }
+    Listed {
+        skipped: skipped + (words.len() - at) as u32,
+        chunks,
+        packets,
+        units,
     }
 }

@@ -9,6 +9,8 @@ ghost use Rattle.tally_recording.specs.Tally.{empty_tally};
 ghost use Rattle.tally_recording.specs.Replies.{refused, of_reply};
 
 use base::{limit, refusal};
+use chunks::Listed;
+use pieces::Framed;
 
 // Recordings, their words, the skipped ones among these; listed chunks (image of camera 0 to 3, health); frames, complete and cut, and strays; sound packets
 // of type 1 to 15; units sound, with a parity bit hit, repaired, and not repairable.
@@ -25,7 +27,7 @@ pub struct Tally {
     pub units: [u32; 4],
 }
 
-// The tally with a recording, or the number of a refusal.
+// The tally with a recording, or the number of a refusal with zeros: `Demand1` says so of this answer, so it is no Result.
 #[derive(Clone, Copy)]
 pub struct Counted {
     pub refusal: u8,
@@ -58,26 +60,33 @@ fn refused(number: u8) -> Counted
     }
 }
 
-// The numbers of one recording.
+// The numbers of one recording. `as` narrows how many words it has: within the limit they fit, which is proved.
+#[tactic(auto, using(crate::proofs::Answers::of_refused, crate::proofs::Answers::of_taken, crate::proofs::Bound::short))]
 pub fn of(recording: &[u16], sync: u16) -> Counted
     ensures { result ≡ of_reply sync recording.now }
 {
     if limit::too_long(recording) {
         return refused(refusal::LENGTH);
     }
-    let listed = chunks::count(recording, sync);
-    let framed = pieces::count(recording, sync);
-    let chunks = listed.chunks;
-    let packets = listed.packets;
-    let units = listed.units;
+    let Listed {
+        skipped,
+        chunks,
+        packets,
+        units,
+    } = chunks::count(recording, sync);
+    let Framed {
+        complete,
+        cut,
+        strays,
+    } = pieces::count(recording, sync);
     let tally = Tally {
         recordings: 1,
         words: recording.len() as u32,
-        skipped: listed.skipped,
+        skipped,
         chunks,
-        complete: framed.complete,
-        cut: framed.cut,
-        strays: framed.strays,
+        complete,
+        cut,
+        strays,
         packets,
         units,
     };

@@ -1,10 +1,9 @@
 // The frames and strays of a recording, counted.
-ghost use Rattle.std.specs.Prelude.{◌≡◌, false, cond};
+ghost use Rattle.std.specs.Prelude.{◌≡◌, false};
 ghost use Rattle.base.specs.Limit.{too_long};
 ghost use Rattle.tally_recording.specs.Walk.{framed_of};
 
-use base::Words;
-use frame::Piece;
+use frame::{Piece, pieces};
 
 // What is counted of the frames and strays.
 #[derive(Clone, Copy)]
@@ -12,12 +11,6 @@ pub struct Framed {
     pub complete: u32,
     pub cut: u32,
     pub strays: u32,
-}
-
-fn one_if(test: bool) -> u32
-    ensures { result ≡ cond test 1 0 }
-{
-    if test { 1 } else { 0 }
 }
 
 // The frames and strays of a recording within the limit.
@@ -28,26 +21,18 @@ pub fn count(words: &[u16], sync: u16) -> Framed
     let mut complete: u32 = 0;
     let mut cut: u32 = 0;
     let mut strays: u32 = 0;
-    let mut at = 0;
-    loop {
-        let piece = frame::pieces::next(words, sync, Words(at));
+    for piece in pieces::pieces(words, sync) {
         match piece {
-            Piece::Frame(_, described, end) => {
-                complete += one_if(described.complete);
-                cut += one_if(!described.complete);
-                at = end.0;
+            Piece::Frame(_, described, _) => {
+                complete += u32::from(described.complete);
+                cut += u32::from(!described.complete);
             }
-            Piece::Stray(_, end) => {
-                strays += 1;
-                at = end.0;
-            }
-            Piece::End => {
-                return Framed {
-                    complete,
-                    cut,
-                    strays,
-                };
-            }
+            Piece::Stray(..) => strays += 1,
         }
+    }
+    Framed {
+        complete,
+        cut,
+        strays,
     }
 }

@@ -1,5 +1,7 @@
 -- The search for the end of a run: it goes from end to end of the run's chunks, and the runs from the place reached are those from the first place.
-use mathlib.Core.Path.{◌≡◌, refl, sym, ap, ◌∙◌}
+use mathlib.Core.Path.{◌≡◌, sym, ap, ◌∙◌}
+use Rattle.std.proofs.Common.{Option, None, Some}
+use Rattle.std.proofs.lemmas.Option.{some_pair_parts}
 use mathlib.Core.Bool.{Bool, true, false, cond, ◌&&◌}
 use mathlib.Core.List.{List}
 use Prim.Native.Nat.{ℕ, ◌+◌, ◌≤◌}
@@ -11,7 +13,6 @@ use borrow.Author.Tests.{eqb-true}
 use Rattle.base.proofs.Booleans.{and_right}
 use Rattle.base.specs.declared.Words.{Words}
 use Rattle.chunk.specs.declared.Entry.{Entry}
-use Rattle.chunk.specs.declared.Found.{Found}
 use Rattle.chunk.specs.Header.{kind}
 use Rattle.chunk.specs.Reading.{listed}
 use Rattle.chunk.proofs.Steps.{Next, Last}
@@ -34,12 +35,9 @@ pub record Going (sync : ℕ) (ws : List ℕ) (own from end : ℕ) : Type 0 wher
   pub same : (k : ℕ) → runs_on k own sync ws from ≡ runs_on k own sync ws end
 
 module _ (sync : ℕ) (ws : List ℕ) (own from : ℕ) where
-  pub going-first : Going sync ws own from from
-  going-first = record { on = omega arith; same = λ k. refl }
-
   module _ (end : ℕ) (g : Going sync ws own from end) where
     -- no chunk is left
-    pub run-last : Last sync ws end → RunOn sync ws own from Found.End
+    pub run-last : Last sync ws end → RunOn sync ws own from None
     unfolding runs_on runs count_kind
     run-last l = record {
       counts = λ k. g.same k ∙ ap (runs_with k own end) l.lists;
@@ -57,11 +55,11 @@ module _ (sync : ℕ) (ws : List ℕ) (own from : ℕ) where
           → runs_on k own sync ws from ≡ cond b 0 (one k own) + runs_on k (kind e.header) sync ws n
       by_next b t k = g.same k ∙ runs_here b t k ∙ ap (λ (m : ℕ). cond b 0 (one k own) + m) (runs-from sync ws end e n s k)
 
-      same_end : {f : Entry} {m : Words} → Found.Chunk e (record { 0 = n }) ≡ Found.Chunk f m → record { 0 = n } ≡ m
-      same_end q = cc
+      same_end : {f : Entry} {m : Words} → ◌≡◌ {A = Option (Entry × Words)} (Some (e, record { 0 = n })) (Some (f, m)) → record { 0 = n } ≡ m
+      same_end q = (some_pair_parts _ _ _ _ q).1
 
       -- it begins another run
-      pub run-parted : eqb e.position.0 end && eqb (kind e.header) own ≡ false → RunOn sync ws own from (Found.Chunk e (record { 0 = n }))
+      pub run-parted : eqb e.position.0 end && eqb (kind e.header) own ≡ false → RunOn sync ws own from (Some (e, record { 0 = n }))
       run-parted t = record {
         counts = by_next false t;
         ahead = λ f m q.

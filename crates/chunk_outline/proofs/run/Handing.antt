@@ -1,5 +1,6 @@
 -- The rest is handed on: what the function of a kind knows once its run is passed, in plain numbers.
 use mathlib.Core.Path.{◌≡◌, ap, ◌∙◌}
+use Rattle.std.proofs.Common.{Option, None, Some}
 use mathlib.Core.List.{List}
 use Prim.Native.Nat.{ℕ, ◌+◌, ◌<◌, ◌≤◌, ◌/◌}
 use native.Mathlib.Nat.{add-zero, mod-lt}
@@ -9,7 +10,6 @@ use lib.Dec.{lit<}
 use Rattle.base.specs.Limit.{recording_limit}
 use Rattle.base.specs.declared.Words.{Words}
 use Rattle.chunk.specs.declared.Entry.{Entry}
-use Rattle.chunk.specs.declared.Found.{Found}
 use Rattle.chunk.specs.Header.{kind}
 use Rattle.chunk_outline.specs.Within.{Reached, one, runs_on, runs_of, RunOn}
 
@@ -23,17 +23,17 @@ pub record Handed (sync : ℕ) (ws : List ℕ) (own end : ℕ) (e : Entry) (n : 
   pub within : n ≤ length ws
   pub counts : (k : ℕ) → runs_on k own sync ws end ≡ one k own + runs_on k (kind e.header) sync ws n
 
-module _ (sync : ℕ) (ws : List ℕ) (own end : ℕ) (found : Found) (r : RunOn sync ws own end found) where
-  pub run-handed : (e : Entry) (next : Words) → found ≡ Found.Chunk e next → Handed sync ws own end e next.0
+module _ (sync : ℕ) (ws : List ℕ) (own end : ℕ) (found : Option (Entry × Words)) (r : RunOn sync ws own end found) where
+  pub run-handed : (e : Entry) (next : Words) → found ≡ Some (e, next) → Handed sync ws own end e next.0
   run-handed e next q = record {
     ahead = (r.ahead e next q).0;
     within = (r.ahead e next q).1;
-    counts = λ k. r.counts k ∙ ap (λ (f : Found). one k own + runs_of k sync ws f) q;
+    counts = λ k. r.counts k ∙ ap (λ (f : Option (Entry × Words)). one k own + runs_of k sync ws f) q;
   }
 
   -- it is the last run
-  pub last-run : found ≡ Found.End → (k : ℕ) → runs_on k own sync ws end ≡ one k own
-  last-run q k = r.counts k ∙ ap (λ (f : Found). one k own + runs_of k sync ws f) q ∙ add-zero (one k own)
+  pub last-run : found ≡ None → (k : ℕ) → runs_on k own sync ws end ≡ one k own
+  last-run q k = r.counts k ∙ ap (λ (f : Option (Entry × Words)). one k own + runs_of k sync ws f) q ∙ add-zero (one k own)
 
 -- the runs that the function of the next kind counts
 pub kind-counted : {sync : ℕ} {ws : List ℕ} {own end n : ℕ} {e : Entry} → Handed sync ws own end e n → (o : ℕ) → kind e.header ≡ o → (k : ℕ)

@@ -1,6 +1,6 @@
 -- The loop that counts: what is counted up to `at` and what the reading gives from there on are all. `words` are those of the chunks so far.
-use mathlib.Core.Path.{◌≡◌, refl, sym, ap, ◌∙◌}
-use mathlib.Core.Bool.{Bool, false, ◌||◌, or_assoc, or-false}
+use mathlib.Core.Path.{◌≡◌, sym, ap, ◌∙◌}
+use mathlib.Core.Bool.{Bool, ◌||◌, or_assoc, or-false}
 use mathlib.Core.List.{List}
 use Prim.Native.Nat.{ℕ, ◌+◌, ◌-◌, ◌≤◌}
 use native.Mathlib.Omega.{arith}
@@ -18,9 +18,6 @@ pub record Counted (sync : ℕ) (ws : List ℕ) (chunks words : ℕ) (end : Bool
   pub marked : end || any_end (listed sync at 0 (drop at ws)) ≡ any_end (reading sync ws)
 
 module _ (sync : ℕ) (ws : List ℕ) where
-  pub none-counted : Counted sync ws 0 0 false 0
-  none-counted = record { within = omega arith; few = omega arith; less = omega arith; many = omega arith; missed = omega arith; marked = refl }
-
   module _ (chunks words : ℕ) (end : Bool) (at : ℕ) (c : Counted sync ws chunks words end at) where
     pub chunk-counted : (e : Entry) (n : ℕ) → Next sync ws at e n → Counted sync ws (chunks + 1) (words + (n - e.position.0)) (end || e.end) n
     unfolding any_end

@@ -1,4 +1,5 @@
--- Each contract is the tie itself.
+-- Each contract is the tie itself; of a function for items of any type, it is asked that the type outlives the call, as numbers do.
+use borrow.Author.Rules.{rules}
 use Rattle.promises.specs.Ties.{Determined}
 use Rattle.promises.specs.calls.Base as calls
 use Rattle.promises.proofs.Ties.{determined}
@@ -28,16 +29,16 @@ pub either : Determined calls.either
 either = determined calls.either (λ κs a. tt) λ κs a x e p. p
 
 pub word-at : Determined calls.word_at
-word-at = determined calls.word_at (λ κs a. tt) λ κs a x e p. p
+word-at = determined calls.word_at (λ κs a. search rules) λ κs a x e p. p
 
 pub byte-at : Determined calls.byte_at
-byte-at = determined calls.byte_at (λ κs a. tt) λ κs a x e p. p
+byte-at = determined calls.byte_at (λ κs a. search rules) λ κs a x e p. p
 
 pub put-words : Determined calls.put_words
-put-words = determined calls.put_words (λ κs a. tt) λ κs a x e p. p
+put-words = determined calls.put_words (λ κs a. search rules) λ κs a x e p. p
 
 pub put-joined : Determined calls.put_joined
-put-joined = determined calls.put_joined (λ κs a. tt) λ κs a x e p. p
+put-joined = determined calls.put_joined (λ κs a. search rules) λ κs a x e p. p
 
 pub put-bytes : Determined calls.put_bytes
-put-bytes = determined calls.put_bytes (λ κs a. tt) λ κs a x e p. p
+put-bytes = determined calls.put_bytes (λ κs a. search rules) λ κs a x e p. p

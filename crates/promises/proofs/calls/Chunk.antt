@@ -1,5 +1,7 @@
 -- Each contract is the tie itself; each refusal is the first arm of `answer`, and the number stands in both arms.
-use mathlib.Core.Path.{refl}
+use mathlib.Core.Path.{refl, ap₂}
+use mathlib.Core.List.{List}
+use Prim.Native.Nat.{ℕ}
 use Rattle.base.specs.Refusal.{settled}
 use Rattle.base.proofs.Refused.{answer-no, settled-refusal, answer-number}
 use Rattle.chunk_reading.specs.declared.Survey.{Survey}
@@ -34,6 +36,10 @@ is-at-end = determined calls.is_at_end (λ κs a. tt) λ κs a x e p. p
 
 pub next : Determined calls.next
 next = determined calls.next (λ κs a. tt) λ κs a x e p. p
+
+-- of three clauses, one for each part of the walk
+pub chunks : Determined calls.chunks
+chunks = determined calls.chunks (λ κs a. tt) λ κs a x e p. ap₂ (λ (ws : List ℕ) (r : ℕ × ℕ). (ws, r)) p.0 (ap₂ (λ (s at : ℕ). (s, at)) p.1.0 p.1.1)
 
 pub refused : Determined calls.refused
 refused = determined calls.refused (λ κs a. tt) λ κs a x e p. p

@@ -1,5 +1,7 @@
 -- Each contract is the tie itself; each refusal is the first arm of `answer`, and the number stands in both arms.
-use mathlib.Core.Path.{refl}
+use mathlib.Core.Path.{refl, ap₂}
+use mathlib.Core.List.{List}
+use Prim.Native.Nat.{ℕ}
 use Rattle.base.proofs.Refused.{answer-no, answer-number}
 use Rattle.frame_reading.specs.declared.Frame.{Frame}
 use Rattle.frame.specs.Described.{described}
@@ -13,6 +15,10 @@ starts = determined calls.starts (λ κs a. tt) λ κs a x e p. p
 
 pub next : Determined calls.next
 next = determined calls.next (λ κs a. tt) λ κs a x e p. p
+
+-- of three clauses, one for each part of the walk
+pub pieces : Determined calls.pieces
+pieces = determined calls.pieces (λ κs a. tt) λ κs a x e p. ap₂ (λ (ws : List ℕ) (r : ℕ × ℕ). (ws, r)) p.0 (ap₂ (λ (s at : ℕ). (s, at)) p.1.0 p.1.1)
 
 pub at : Answers calls.at
 unfolding replies.at_reply described

@@ -17,7 +17,7 @@ pub to : Determined calls.to
 to = determined calls.to (λ κs a. tt) λ κs a x e p. p
 
 pub append : Determined calls.append
-append = determined calls.append (λ κs a. tt) λ κs a x e p. both p
+append = determined calls.append (λ κs a. tt) λ κs a x e p. p
 
 pub append-number : Determined calls.append_number
-append-number = determined calls.append_number (λ κs a. tt) λ κs a x e p. both p
+append-number = determined calls.append_number (λ κs a. tt) λ κs a x e p. p

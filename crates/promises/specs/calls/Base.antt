@@ -1,5 +1,5 @@
 -- The functions of `base` and `base_room`: the contract, what the caller sees, and the definition that says it.
-use Rattle.std.specs.Prelude.{ℕ, cond, List, ◌++◌, get_or}
+use Rattle.std.specs.Prelude.{ℕ, cond, refl, List, ◌++◌, get_or}
 use Rattle.base.specs.Refusal.{settled}
 use Rattle.base.specs.Limit as limit
 use Rattle.base.specs.Number as number
@@ -20,16 +20,21 @@ use Rattle.base.specs.contracts.number.low_word as low_word_contract
 use Rattle.base.proofs.number.low_word.Reads as low_word_reads
 use Rattle.base.specs.contracts.number.either as either_contract
 use Rattle.base.proofs.number.either.Reads as either_reads
-use Rattle.base_room.specs.contracts.word_at as word_at_contract
-use Rattle.base_room.proofs.word_at.Reads as word_at_reads
-use Rattle.base_room.specs.contracts.byte_at as byte_at_contract
-use Rattle.base_room.proofs.byte_at.Reads as byte_at_reads
-use Rattle.base_room.specs.contracts.put_words as put_words_contract
-use Rattle.base_room.proofs.put_words.Reads as put_words_reads
+use Rattle.base_room.specs.contracts.at as at_contract
+use Rattle.base_room.proofs.at.Reads as at_reads
+use Rattle.base_room.specs.contracts.put as put_contract
+use Rattle.base_room.proofs.put.Reads as put_reads
 use Rattle.base_room.specs.contracts.put_joined as put_joined_contract
 use Rattle.base_room.proofs.put_joined.Reads as put_joined_reads
-use Rattle.base_room.specs.contracts.put_bytes as put_bytes_contract
-use Rattle.base_room.proofs.put_bytes.Reads as put_bytes_reads
+use Rattle.base_room.specs.contracts.U16Item.TheImpl as word_item
+use Rattle.base_room.specs.contracts.U8Item.TheImpl as byte_item
+use Rattle.std.specs.contracts.prelude.U16Clone.TheImpl as word_clone
+use Rattle.std.specs.contracts.prelude.U8Clone.TheImpl as byte_clone
+use denote.RattleType.{RattleType}
+use denote.Struct.Field.{u16-field, u8-field}
+use denote.Struct.Laws.{u16-laws, u16-copy, u8-laws, u8-copy}
+use denote.Param.Laws.{Laws, IsCopy, of_field, of_copyable}
+use denote.Param.Shared.{copy_shared}
 use Rattle.promises.specs.Ties.{Function, replies, shows}
 
 -- `base::refusal::cause`
@@ -80,35 +85,69 @@ either =
     replies either_contract.ended either_reads.Asked either_reads.Post
     λ κs (test, (one, (other, _))). cond test one other
 
--- `base_room::word_at`
+-- The functions of `base_room` are for items of any type; here at words and at bytes: the type, its laws, and that it is copied.
+abbrev pub words : RattleType
+words = u16-field.row
+
+abbrev pub word_laws : Laws words
+word_laws = of_field u16-field u16-laws refl (copy_shared u16-field u16-copy)
+
+abbrev pub word_copied : IsCopy words
+word_copied = of_copyable u16-field u16-copy
+
+abbrev pub bytes : RattleType
+bytes = u8-field.row
+
+abbrev pub byte_laws : Laws bytes
+byte_laws = of_field u8-field u8-laws refl (copy_shared u8-field u8-copy)
+
+abbrev pub byte_copied : IsCopy bytes
+byte_copied = of_copyable u8-field u8-copy
+
+-- `base_room::at`, of words
 abbrev pub word_at : Function
 word_at =
-    replies word_at_contract.ended word_at_reads.Asked word_at_reads.Post
-    λ κs (words, (at, _)). get_or words.now at.0 0
+    replies
+    (at_contract.ended words word_item.ghosts word_item.dict word_clone.ghosts word_clone.dict)
+    (at_reads.Asked words word_laws word_copied word_item.ghosts word_item.dict word_clone.ghosts word_clone.dict)
+    (at_reads.Post words word_laws word_copied word_item.ghosts word_item.dict word_clone.ghosts word_clone.dict)
+    λ κs (items, (place, _)). get_or items.now place 0
 
--- `base_room::byte_at`
+-- `base_room::at`, of bytes
 abbrev pub byte_at : Function
 byte_at =
-    replies byte_at_contract.ended byte_at_reads.Asked byte_at_reads.Post
-    λ κs (bytes, (at, _)). get_or bytes.now at.0 0
+    replies
+    (at_contract.ended bytes byte_item.ghosts byte_item.dict byte_clone.ghosts byte_clone.dict)
+    (at_reads.Asked bytes byte_laws byte_copied byte_item.ghosts byte_item.dict byte_clone.ghosts byte_clone.dict)
+    (at_reads.Post bytes byte_laws byte_copied byte_item.ghosts byte_item.dict byte_clone.ghosts byte_clone.dict)
+    λ κs (items, (place, _)). get_or items.now place 0
 
--- `base_room::put_words`
+-- `base_room::put`, of words
 abbrev pub put_words : Function
 put_words =
-    shows put_words_contract.ended put_words_reads.Asked put_words_reads.Post
+    shows
+    (put_contract.ended words word_clone.ghosts word_clone.dict)
+    (put_reads.Asked words word_laws word_copied word_clone.ghosts word_clone.dict)
+    (put_reads.Post words word_laws word_copied word_clone.ghosts word_clone.dict)
     (List ℕ) (λ κs x (_, (room, _)). room.now)
-    λ κs (words, (room, (at, _))). put words.now at.0 room.now
+    λ κs (items, (room, (at, _))). put items.now at room.now
 
--- `base_room::put_joined`
+-- `base_room::put_joined`, of words
 abbrev pub put_joined : Function
 put_joined =
-    shows put_joined_contract.ended put_joined_reads.Asked put_joined_reads.Post
+    shows
+    (put_joined_contract.ended words word_clone.ghosts word_clone.dict)
+    (put_joined_reads.Asked words word_laws word_copied word_clone.ghosts word_clone.dict)
+    (put_joined_reads.Post words word_laws word_copied word_clone.ghosts word_clone.dict)
     (List ℕ) (λ κs x (_, (_, (room, _))). room.now)
     λ κs (first, (second, (room, _))). put (first.now ++ second.now) 0 room.now
 
--- `base_room::put_bytes`
+-- `base_room::put`, of bytes
 abbrev pub put_bytes : Function
 put_bytes =
-    shows put_bytes_contract.ended put_bytes_reads.Asked put_bytes_reads.Post
+    shows
+    (put_contract.ended bytes byte_clone.ghosts byte_clone.dict)
+    (put_reads.Asked bytes byte_laws byte_copied byte_clone.ghosts byte_clone.dict)
+    (put_reads.Post bytes byte_laws byte_copied byte_clone.ghosts byte_clone.dict)
     (List ℕ) (λ κs x (_, (room, _)). room.now)
-    λ κs (bytes, (room, (at, _))). put bytes.now at.0 room.now
+    λ κs (items, (room, (at, _))). put items.now at room.now

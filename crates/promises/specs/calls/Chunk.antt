@@ -25,6 +25,8 @@ use Rattle.chunk.specs.contracts.header.is_at_end as is_at_end_contract
 use Rattle.chunk.proofs.header.is_at_end.Reads as is_at_end_reads
 use Rattle.chunk.specs.contracts.search.next as next_contract
 use Rattle.chunk.proofs.search.next.Reads as next_reads
+use Rattle.chunk.specs.contracts.search.chunks as chunks_contract
+use Rattle.chunk.proofs.search.chunks.Reads as chunks_reads
 use Rattle.chunk_reading.specs.contracts.counting.refused as refused_contract
 use Rattle.chunk_reading.proofs.counting.refused.Reads as refused_reads
 use Rattle.chunk_reading.specs.contracts.counting.count as count_contract
@@ -90,6 +92,12 @@ abbrev pub next : Function
 next =
     replies next_contract.ended next_reads.Asked next_reads.Post
     λ κs (words, (sync, (from, _))). next_from sync words.now from.0
+
+-- `chunk::search::chunks`: the words, the sync word and the place of the walk
+abbrev pub chunks : Function
+chunks =
+    shows chunks_contract.ended chunks_reads.Asked chunks_reads.Post
+    (List ℕ × (ℕ × ℕ)) (λ κs x e. (x.words.now, (x.sync, x.at.0))) λ κs (words, (sync, _)). (words.now, (sync, 0))
 
 -- `chunk_reading::counting::refused`
 abbrev pub refused : Function

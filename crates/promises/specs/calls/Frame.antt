@@ -9,13 +9,15 @@ use Rattle.frame.specs.contracts.starts as starts_contract
 use Rattle.frame.proofs.starts.Reads as starts_reads
 use Rattle.frame.specs.contracts.pieces.next as next_contract
 use Rattle.frame.proofs.pieces.next.Reads as next_reads
+use Rattle.frame.specs.contracts.pieces.pieces as pieces_contract
+use Rattle.frame.proofs.pieces.pieces.Reads as pieces_reads
 use Rattle.frame_reading.specs.contracts.at as at_contract
 use Rattle.frame_reading.proofs.at.Reads as at_reads
 use Rattle.frame_reading.specs.contracts.judge as judge_contract
 use Rattle.frame_reading.proofs.judge.Reads as judge_reads
 use Rattle.frame_reading.specs.contracts.read as read_contract
 use Rattle.frame_reading.proofs.read.Reads as read_reads
-use Rattle.promises.specs.Ties.{Function, replies, Call, replies_or_refuses, shows_or_refuses}
+use Rattle.promises.specs.Ties.{Function, replies, shows, Call, replies_or_refuses, shows_or_refuses}
 
 -- `frame::starts`
 abbrev pub starts : Function
@@ -28,6 +30,12 @@ abbrev pub next : Function
 next =
     replies next_contract.ended next_reads.Asked next_reads.Post
     λ κs (words, (sync, (from, _))). next_piece sync words.now from.0
+
+-- `frame::pieces::pieces`: the words, the sync word and the place of the walk
+abbrev pub pieces : Function
+pieces =
+    shows pieces_contract.ended pieces_reads.Asked pieces_reads.Post
+    (List ℕ × (ℕ × ℕ)) (λ κs x e. (x.words.now, (x.sync, x.at.0))) λ κs (words, (sync, _)). (words.now, (sync, 0))
 
 -- `frame_reading::at`
 abbrev pub at : Call

@@ -4,7 +4,6 @@ use Rattle.std.specs.Prelude.{ℕ, List, length}
 use Rattle.std.proofs.Math.Option.{some}
 use Rattle.base.specs.declared.Written.{Written}
 use Rattle.base.specs.Refusal.{wrote}
-use Rattle.base_room.specs.Room.{put}
 use Rattle.program_input.specs.Input.{words_causes, words_reply, words_room}
 use Rattle.program_output.specs.declared.Out.{Out}
 use Rattle.program_output.specs.Output.{to_reply, append_reply, decimal}
@@ -41,12 +40,12 @@ to =
 abbrev pub append : Function
 append =
     shows append_contract.ended append_reads.Asked append_reads.Post
-    (Out × List ℕ) (λ κs x (_, (page, _)). (x, page.now))
-    λ κs (out, (page, (bytes, _))). (append_reply out (length bytes.now), put bytes.now out.used.0 page.now)
+    Out (λ κs x (out, _). out.now)
+    λ κs (out, (bytes, _)). append_reply out.now bytes.now
 
 -- `program_output::Out::append_number`
 abbrev pub append_number : Function
 append_number =
     shows append_number_contract.ended append_number_reads.Asked append_number_reads.Post
-    (Out × List ℕ) (λ κs x (_, (page, _)). (x, page.now))
-    λ κs (out, (page, (n, _))). (append_reply out (length (decimal n)), put (decimal n) out.used.0 page.now)
+    Out (λ κs x (out, _). out.now)
+    λ κs (out, (n, _)). append_reply out.now (decimal n)

@@ -1,8 +1,7 @@
 -- The loop that writes the index: the entries of the rest of the chunks, put into the room as it is, give the whole answer.
-use mathlib.Core.Path.{◌≡◌, refl, sym, ap, ◌∙◌}
+use mathlib.Core.Path.{◌≡◌, sym, ap, ◌∙◌}
 use mathlib.Core.List.{List}
 use Prim.Native.Nat.{ℕ, suc, ◌+◌, ◌*◌, ◌≤◌}
-use native.Mathlib.Nat.{add-zero}
 use native.Mathlib.Omega.{arith}
 use lib.ListN.{length}
 use Rattle.base_room.specs.Room.{put}
@@ -21,9 +20,6 @@ pub record Indexed (sync : ℕ) (ws room₀ room : List ℕ) (from count : ℕ) 
   pub written : put (index_words (listed_from sync ws from)) (length ws + entry_width * count) room ≡ put (index_words (reading sync ws)) (length ws) room₀
 
 module _ (sync : ℕ) (ws room₀ : List ℕ) where
-  pub none-indexed : length ws + entry_width * length (reading sync ws) ≤ length room₀ → Indexed sync ws room₀ room₀ 0 0
-  none-indexed h = record { long = refl; fits = omega arith; counts = omega arith; written = ap (λ (n : ℕ). put (index_words (reading sync ws)) n room₀) (add-zero (length ws)) }
-
   module _ (room : List ℕ) (from count : ℕ) (k : Indexed sync ws room₀ room from count) where
     entry-put : (e : Entry) (n : ℕ) → Next sync ws from e n → Indexed sync ws room₀ (put (entry_words e) (length ws + entry_width * count) room) n (count + 1)
     unfolding index_words

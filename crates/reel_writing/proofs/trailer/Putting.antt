@@ -29,12 +29,12 @@ part-put s n at k d h f e =
     ∙ ap (λ (l : List ℕ). l ++ s) (drop-take n at d h (omega arith))
 
 -- the two writes of the trailer are one, and the CRC covers the entries and the two words before it
-pub trailer-put : (n count crc : ℕ) (room a b : List ℕ) → reel_words n count ≤ length room
+pub trailer_put : (n count crc : ℕ) (room a b : List ℕ) → reel_words n count ≤ length room
     → a ≡ put (pointers count n) (n + entry_width * count) room
     → crc ≡ crc_words crc_start (take (n + entry_width * count + 2 - n) (drop n a))
     → b ≡ put (crc ∷ edition ∷ []) (n + entry_width * count + 2) a
     → b ≡ put (trailer (take (entry_width * count) (drop n room)) count n) (n + entry_width * count) room
-trailer-put n count crc room a b h ea ec eb =
+trailer_put n count crc room a b h ea ec eb =
     let k : n + entry_width * count - n ≡ entry_width * count = omega arith in
     let covered : crc ≡ reel_crc (take (entry_width * count) (drop n room)) count n =
     ec ∙ ap (λ (l : List ℕ). crc_words crc_start (take (n + entry_width * count + 2 - n) (drop n l))) ea

@@ -1,0 +1,9 @@
+-- What the units so far give stands in the room.
+use Rattle.std.proofs.Common.{◌≡◌}
+use Rattle.std.specs.Slice.Iter.{chunks_rest, chunks_size}
+use Rattle.parity_units.specs.Split.{given_data}
+use Rattle.parity_units.proofs.Joining.{Joined}
+use Rattle.parity_units.proofs.join.Given as goal
+
+abbrev pub invariant-loop-unit : goal.invariant-loop-unit
+invariant-loop-unit l = (chunks_size l.unit-iterator ≡ 264) × Joined given_data l.payload l.initial.room l.place.0 l.room (chunks_rest l.unit-iterator) l.to
