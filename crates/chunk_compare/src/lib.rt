@@ -95,7 +95,7 @@ fn look(first: &[u16], second: &[u16], sync: u16, entries: usize) -> Compared
 }
 
 // Compares two recordings, the k-th listed chunk of one with the k-th of the other, until one has no more. The k-th entry of the list tells of the k-th pair;
-// the entries past the last keep their contents.
+// the entries past the last keep their contents. By place, as in `base_room::put`.
 pub fn recordings(first: &[u16], second: &[u16], sync: u16, list: &mut [u16]) -> Compared
     ensures value { result ≡ compare_reply sync first.now second.now (length list.old) }
     ensures list_after { list.new ≡ compare_room sync first.now second.now list.old }

@@ -8,7 +8,7 @@ use crate::Heading;
 use base::{Words, limit, refusal};
 use chunk::{header, search};
 
-// Whether a chunk is listed at a place: the reading is followed up to it.
+// Whether a chunk is listed at a place: the reading is followed up to it, and no further, as `any` over the chunks would.
 pub fn is_listed(words: &[u16], sync: u16, place: Words) -> bool
     ensures { result ≡ listed_at sync words.now place.0 }
 {
@@ -79,7 +79,8 @@ pub fn at(recording: &[u16], sync: u16, place: Words) -> Heading
     heading_of(word, past == recording.len())
 }
 
-// The payload of the chunk listed at a place, as a part of the recording; empty where `at` refuses.
+// The payload of the chunk listed at a place, as a part of the recording; empty, and no `Option`, where `at` refuses, which has the number:
+// `Demand1` says so of this answer.
 #[tactic(auto, using(crate::proofs::place::Answers::at_number, crate::proofs::place::Answers::refused_payload, crate::proofs::place::Answers::accepted_within, crate::proofs::place::Answers::accepted_size, crate::proofs::place::Answers::accepted_payload))]
 pub fn payload(recording: &[u16], sync: u16, place: Words) -> &[u16]
     ensures { result.now ≡ payload_reply sync recording.now place.0 }

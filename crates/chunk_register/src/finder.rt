@@ -7,7 +7,8 @@ use base::{Words, refusal};
 use chunk::{Entry, search};
 use chunk_reading::{Survey, counting};
 
-// A chunk's entry, and the place past the chunk.
+// A chunk's entry, and the place past the chunk. No `Option`: `list` asks once for each chunk that was counted, so that none is left cannot come there, and an
+// `Option` would give its loop an exit that is never taken. Zeros stand for it.
 #[derive(Clone, Copy)]
 pub struct Step {
     pub entry: Entry,
@@ -26,7 +27,7 @@ pub fn look(recording: &[u16], sync: u16, entries: usize) -> Survey
     survey
 }
 
-// The next chunk at or after a place; zeros and no mark where none is left. docs/PROMISES.md names a finder of its own, over which `list` is thin.
+// The next chunk at or after a place; zeros and no mark where none is left. docs/PROMISES.md wants `list` thin, over a finder.
 #[tactic(auto, unfolding(crate::specs::Finder::step_from, crate::specs::Finder::step_to))]
 pub fn step_from(recording: &[u16], sync: u16, at: Words) -> Step
     ensures { result ≡ step_from sync recording.now at.0 }

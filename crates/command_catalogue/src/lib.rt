@@ -11,7 +11,8 @@ ghost use Rattle.command_catalogue.specs.Rules.{asked_wrong, patch_lengths, zero
 use crate::table::{Permits, look_up};
 use base::refusal::{ARGUMENT, COMMAND_FIELD, COMMAND_TYPE, FURTHER_DATA, MODE, cause};
 
-// The catalogues and the modes, as the calls take them: catalogue 1 is D-CIXS, 2 is C1XS. Numbers and no enums, for `judge` refuses one that is none.
+// The catalogues and the modes, as the calls take them: catalogue 1 is D-CIXS, 2 is C1XS. Numbers and no enums, for `judge` refuses one that is none;
+// and each for itself, as C hands them over (`hawserfen_read_command`), since `first` of `command` asks for the catalogue alone.
 pub const DCIXS: u8 = 1;
 
 pub const C1XS: u8 = 2;
@@ -68,8 +69,8 @@ fn further_wrong(catalogue: u8, command_type: u8, data: u16, further: &[u8]) -> 
     n != 0
 }
 
-// The verdict on a command's type, qualifier, address, data and further bytes, in a catalogue and a mode. They come one by one: each function here goes by
-// others of them, and a struct of just these would be built at both calls from `command::Fields`, which has the sequence count too.
+// The verdict on a command's type, qualifier, address, data and further bytes, in a catalogue and a mode: the answer's number (`Demand1`). They come one by one:
+// each function here goes by others of them, and a struct of just these would be built at both calls from `command::Fields`, which has the sequence count too.
 pub fn judge(
     catalogue: u8,
     mode: u8,

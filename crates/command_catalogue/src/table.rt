@@ -5,7 +5,7 @@ ghost use Rattle.command_catalogue.specs.Table.{permitted, permits};
 use crate::{C1XS, DCIXS, EMERGENCY, OPERATING, PATCH, STANDBY};
 use base::number::either;
 
-// The types of commands, PATCH aside. Numbers and no enum, for a type is a number that anybody may pass, and the `match` below refuses one that is none.
+// The types of commands, PATCH aside. Numbers and no enum, for a type is a number that anybody may pass, and one that is none has no row.
 const DUMMY: u8 = 1;
 
 const DUMP: u8 = 3;
@@ -30,7 +30,8 @@ const XSM_ON: u8 = 12;
 
 const XSM_OFF: u8 = 13;
 
-// What the table permits of a command: its type, its qualifier, an address and data other than zero, and its mode.
+// What the table permits of a command: its type, its qualifier, an address and data other than zero, and its mode. Whether it has the type is a flag, and this
+// no `Option` of the others: `permits`, on which `judge_causes` stands, has five tests, and without a row all are false.
 #[derive(Clone, Copy)]
 pub struct Permits {
     pub command_type: bool,

@@ -40,6 +40,7 @@ fn give(verdict: u8, fields: Fields, further: Bytes) -> Command
 }
 
 // The verdict on a packet of a permitted length, in a catalogue and a mode that there are: its header, its CRC, then its fields and further bytes.
+// The number is the answer's (`Demand1`).
 fn inspect(catalogue: u8, mode: u8, fields: Fields, bytes: &[u8]) -> u8
     requires { (asked_wrong catalogue mode ≡ false) × (least_bytes ≤ length bytes.now) }
     ensures { result ≡ verdict (packet_causes catalogue mode fields bytes.now) }
@@ -77,7 +78,7 @@ pub fn read(catalogue: u8, mode: u8, bytes: &[u8]) -> Command
     give(inspect(catalogue, mode, fields, bytes), fields, Bytes(more))
 }
 
-// The further bytes of a command, as a part of its bytes; none where `read` refuses, which has the number.
+// The further bytes of a command, as a part of its bytes; none, and no `Option`, where `read` refuses, which has the number: `Demand1` says so of this answer.
 #[tactic(auto, using(crate::proofs::Replies::further_bytes))]
 pub fn further(catalogue: u8, mode: u8, bytes: &[u8]) -> &[u8]
     ensures { result.now ≡ further_reply catalogue mode bytes.now }

@@ -83,6 +83,7 @@ fn crc_of(line: &[u8]) -> Option<u16> {
     }
 }
 
+// By the kit's `io`: std's streams would ask for the runtime, and no text is long enough for a page.
 fn print_line(line: &[u8]) {
     io::write_all(1, line);
     if let Some(crc) = crc_of(line) {

@@ -13,6 +13,7 @@ pub fn in_words(refusal: u8, a: usize, b: usize, c: usize) -> u64
         + c as u64 % 65536
 }
 
+// By `if`: `usize::from(set) * worth` is no plainer.
 pub fn flag(set: bool, worth: usize) -> usize
     ensures { (result ≡ says.flag set worth) × (result ≤ worth) }
 {

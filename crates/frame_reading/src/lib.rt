@@ -70,7 +70,8 @@ impl From<Description> for Frame {
     }
 }
 
-// The refusal number for a place of a recording. It is the answer's (`Demand1`).
+// The refusal number for a place of a recording. It is the answer's (`Demand1`). Recording,
+// sync word and place are taken apart, as `chunk::walk::Chunks` says of the first two.
 #[tactic(auto, using(crate::proofs::Asking::listed_inside))]
 fn find(recording: &[u16], sync: u16, place: Words) -> u8
     ensures { result ≡ verdict (at_causes sync recording.now place.0) }

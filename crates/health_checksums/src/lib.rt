@@ -25,7 +25,8 @@ fn pages(packet: &[u16], at: Words) -> [u16; 8]
     words
 }
 
-// The checksums of three cameras with eight pages each, zeros on a refusal.
+// The checksums of three cameras with eight pages each; zeros, and no `Option`, on a refusal, since `Demand1` says so of this answer. docs/PROMISES.md names the
+// array by value.
 #[tactic(auto, using(crate::proofs::Long::accepted_long), unfolding(crate::specs::Checksums::checksums_reply, base::specs::Refusal::answer))]
 pub fn checksums(packet: &[u16]) -> [[u16; 8]; 3]
     ensures { result ≡ checksums_reply packet.now }

@@ -163,7 +163,8 @@ fn packet_at(words: &[u16], at: Words) -> &[u16]
     &words[at.0..at.0 + PACKET.0]
 }
 
-// The packet that is shown of a type, as a part of the recording that it stands in; empty where `last_place` refuses.
+// The packet that is shown of a type, as a part of the recording that it stands in; empty, and no `Option`, where `last_place` refuses, which has the number:
+// `Demand1` says so of this answer. Both recordings, sync word and type come one by one here, as C hands them over.
 pub fn last_packet<'a>(
     science: &'a [u16],
     sync: u16,

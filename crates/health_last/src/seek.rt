@@ -73,7 +73,8 @@ fn in_chunks(words: &[u16], sync: u16, packet_type: u16) -> Option<Marked>
     })
 }
 
-// The last listed chunk that holds a packet of the type, sound or not. No CRC is computed.
+// The last listed chunk that holds a packet of the type, sound or not. No CRC is computed. A fold like that of `in_chunks`: one keeps a place and its mark, the
+// other the chunk, and each says so in a contract of its own (`Answers`, `Decided`), so one function for both would be longer.
 fn last_holder(words: &[u16], sync: u16, packet_type: u16) -> Option<Entry>
     ensures { Decided sync words.now packet_type result }
 {

@@ -5,13 +5,8 @@
 mod lines;
 
 use base::{Bytes, Words, limit};
+use program_input::{ROOM, WORDS};
 use program_output::{OUTPUT, Out, Printer};
-
-// the sync word, and a recording at the limit
-const WORDS: Words = Words(1 + limit::LISTING_RECORDING.0);
-
-// room for these, and one byte more by which a longer input shows
-const ROOM: Bytes = Bytes(2 * WORDS.0 + 1);
 
 // All lines of a recording.
 fn list(out: &mut Printer, recording: &[u16], sync: u16) {

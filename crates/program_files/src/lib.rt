@@ -6,14 +6,9 @@ ghost use Rattle.io.specs.Counts.{IsPrefixLen};
 ghost use Rattle.program_files.specs.declared.Unheard.TheVariants.{Refused};
 
 use base::{Bytes, Words, limit};
+pub use program_input::{ROOM, WORDS};
 use std::env::{Env, FillError};
 use std::fs::File;
-
-// the sync word, and a recording at the limit
-pub const WORDS: Words = Words(1 + limit::LISTING_RECORDING.0);
-
-// room for these, and one byte more by which a longer file shows
-pub const ROOM: Bytes = Bytes(2 * WORDS.0 + 1);
 
 // room for the longest name that a file can have
 pub const NAME: Bytes = Bytes(4096);

@@ -4,7 +4,13 @@
 ghost use Rattle.std.specs.Prelude.{◌≡◌, ◌+◌, ◌*◌, length, ltb};
 ghost use Rattle.program_input.specs.Input.{words_reply, words_room};
 
-use base::{Bytes, Words, Written, number, refusal};
+use base::{Bytes, Words, Written, limit, number, refusal};
+
+// the sync word, and a recording at the limit
+pub const WORDS: Words = Words(1 + limit::LISTING_RECORDING.0);
+
+// room for these, and one byte more by which a longer input shows. There is no heap, so programs have rooms of a fixed size, and hand on what is used as a slice
+pub const ROOM: Bytes = Bytes(2 * WORDS.0 + 1);
 
 // Whether bytes are more than a sync word and `most` words. No sum of `most`: it may be the largest number.
 fn too_many(bytes: Bytes, most: Words) -> bool
@@ -31,7 +37,7 @@ fn plan(bytes: Bytes, most: Words, room: Words) -> Written
     )
 }
 
-// The sync word and a recording of at most so many words, from bytes with the high one of each word first.
+// The sync word and a recording of at most so many words, from bytes with the high one of each word first. By place, as in `base_room::put`.
 pub fn words(bytes: &[u8], most: Words, room: &mut [u16]) -> Written
     ensures value { result ≡ words_reply (length bytes.now) most.0 (length room.old) }
     ensures room_after { room.new ≡ words_room bytes.now most.0 room.old }

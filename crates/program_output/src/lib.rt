@@ -1,7 +1,7 @@
 // A program's output: text and numbers are gathered on a page, and written when it is full and at the end.
 #![tactic(auto)]
 
-ghost use Rattle.std.specs.Prelude.{◌≡◌, ◌+◌, length, leb};
+ghost use Rattle.std.specs.Prelude.{◌≡◌, ◌+◌, leb};
 ghost use Rattle.program_output.specs.Output.{page_size, to_reply, append_reply, decimal};
 
 use base::Bytes;
@@ -129,7 +129,8 @@ pub fn complain(rt: HostRuntime, bytes: &[u8]) {
     written(rt, ERROR, bytes);
 }
 
-// Writes all of the bytes, and whether that was done. A descriptor that std has no stream of is written by the kit's io.
+// Writes all of the bytes, and whether that was done: a bool, as the kit's `io::write_all` gives, which `flush` keeps in `failed`. A descriptor that std has no
+// stream of is written by the kit's io.
 fn written(rt: HostRuntime, descriptor: i32, bytes: &[u8]) -> bool {
     match descriptor {
         OUTPUT => rt.stdout().write_all(bytes).is_ok(),

@@ -84,6 +84,7 @@ fn chunk_packets(packets: [u32; 15], words: &[u16], chunk: Entry) -> [u32; 15]
 }
 
 // The units of a payload, added by outcome. `as` narrows here and below, where `try_from` would give an error that cannot be: that each number fits is proved.
+// That no sum passes is asked by each function of what it adds: it follows from the limit at `count` alone, so no type of the numbers could hold it.
 #[tactic(auto, using(crate::proofs::Units::sound_fits, crate::proofs::Units::hit_fits, crate::proofs::Units::repaired_fits, crate::proofs::Units::refused_fits, crate::proofs::Units::sound_small, crate::proofs::Units::hit_small, crate::proofs::Units::repaired_small, crate::proofs::Units::refused_small, crate::proofs::Units::units_added))]
 fn payload_units(units: [u32; 4], payload: &[u16]) -> [u32; 4]
     requires { any_past (sums units (unit_numbers (units_in payload.now))) ≡ false }
