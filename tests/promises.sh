@@ -2,7 +2,7 @@
 # docs/PROMISES.md is held to the repository: it names every public function and no other, as a call or as a building block; it names every must-fail edit under
 # the functions that the edit's first line has and no other, two or more of each, and in its map every file is there and has the names that the map gives beside
 # it. The crate `promises` ties the same functions, each to its own contract, and promises each tie once, under the function's name; what else it states is on the
-# contract of its function `hold`. What C links, `exports_c`, has the functions of `exports` once more, under their names, with their parameters, replies and
+# contract of its function `hold`. A walk is an iterator, whose `next` is no public function: it is tied by the law that it gives. What C links, `exports_c`, has the functions of `exports` once more, under their names, with their parameters, replies and
 # clauses: no more and no fewer.
 set -u
 cd "$(dirname "${BASH_SOURCE[0]}")/.." || exit 1
@@ -78,9 +78,11 @@ compare('function', functions - descriptors, set(kinds))
 
 # a tie: the function, its name in the family, its kind, and the description, which must cite the function's own signature and claims
 TIE = r'^-- `([\w:]+)`.*\n(?:--.*\n)*abbrev pub (\w+) : (Call|Function)\n((?:.+\n)+)'
+# and of a walk, which must cite the law of its own `next`
+TURN = r'^-- `([\w:]+)`.*\n(?:--.*\n)*abbrev pub (\w+) : Walk\n((?:.+\n)+)'
 demand = pathlib.Path('crates/promises/specs/Demand1.antt').read_text()
 families = dict(re.findall(r'^use .*\.calls\.(\w+) as (\w+)$', demand, re.M))
-ties, described = {}, {}
+ties, described, walks = {}, {}, {}
 for path in sorted(pathlib.Path('crates/promises/specs/calls').glob('*.antt')):
     # what stands for the contract and the claims of a function, by the name that the file gives it
     modules = {}
@@ -97,6 +99,12 @@ for path in sorted(pathlib.Path('crates/promises/specs/calls').glob('*.antt')):
         cited = re.findall(r'(?<![\w.])([\w.]*?)\.?\b(ended|Asked|Post)\b', description)
         if [word for _, word in cited] != ['ended', 'Asked', 'Post'] or [modules.get(by) for by, _ in cited] != [[own[0]], [own[1]], [own[1]]]:
             wrong.append(f'{function} is tied to {", ".join(f"{by}.{word} of {modules.get(by)}" for by, word in cited)}')
+    for function, name, description in re.findall(TURN, path.read_text(), re.M):
+        walks[function] = f'{families.get(path.stem)}.{name}'
+        crate, module, walk, _ = function.split('::')
+        laws = re.findall(r'^ +gives = (\w+)\.ghosts\.next_gives;$', description, re.M)
+        if [modules.get(by) for by in laws] != [[('contract', crate, f'{module}.{walk}Iterator.TheImpl')]]:
+            wrong.append(f'{function} is tied to {", ".join(f"{by} of {modules.get(by)}" for by in laws)}')
     # and nothing else in the file gives another meaning to these names
     wrong.extend(f'{path} makes its own {name}' for name in re.findall(r'^ *(?:abbrev )?(?:pub )?(\w+) :', path.read_text(), re.M) if name in modules)
 compare('tie of', functions - descriptors, set(ties))
@@ -111,11 +119,16 @@ for field, tie in fields:
     if name not in field:
         wrong.append(f'{described[tie]} is promised as {field}')
 
+turns = {f'{path.parts[1]}::{path.stem}::{walk}::next'
+         for path in pathlib.Path('crates').glob('*/src/*.rt') for walk in re.findall(r'^impl\S* Iterator for (\w+)', path.read_text(), re.M)}
+compare('walk', turns, set(walks))
+compare('promise of', set(walks.values()), set(re.findall(r'^  pub \w+ : Turned (\S+)$', demand, re.M)))
+
 # each statement is on the contract of `hold`, but for the first demand: no contract can name what it is said of, so it is held to have its proof
 home = pathlib.Path('crates/promises')
 held = re.search(r'^pub fn hold\(\)\n(.*?)^\{', (home / 'src/lib.rt').read_text(), re.M | re.S).group(1)
 compare('statement', {path.stem for path in (home / 'specs').glob('*.antt')} - {'Lib', 'Ties', 'calls', 'Demand1'}, set(re.findall(r'^    ensures \w+ \{ (\w+) \}$', held, re.M)))
-for proved, line in (('Lib', 'pub mod Demand1'), ('Demand1', 'pub demand-1 : Demand1'), ('Demand1', 'use Rattle.promises.specs.Demand1.{Calls, Total, Demand1}')):
+for proved, line in (('Lib', 'pub mod Demand1'), ('Demand1', 'pub demand-1 : Demand1'), ('Demand1', 'use Rattle.promises.specs.Demand1.{Calls, Total, Walks, Demand1}')):
     if line not in (home / f'proofs/{proved}.antt').read_text().splitlines():
         wrong.append(f'the first demand has no proof: proofs/{proved}.antt has no line "{line}"')
 

@@ -1,19 +1,30 @@
 -- The reader's reply on its two ways out: refused by the arguments or the total, or with the whole packet looked at.
 use mathlib.Core.Path.{◌≡◌, refl, sym, ap, ◌∙◌}
-use mathlib.Core.Bool.{Bool, false}
+use mathlib.Core.Bool.{Bool, false, cond}
 use mathlib.Core.List.{List, []}
 use Prim.Native.Nat.{ℕ, ◌-◌, ◌≤◌}
 use native.Mathlib.Omega.{arith}
 use lib.ListN.{length, take, drop}
-use Rattle.base.specs.Refusal.{Causes, verdict}
-use Rattle.base.proofs.Refused.{verdict-front, verdict-kept, verdict-further, answer-no, answer-yes, answer-number}
+use Rattle.base.specs.Refusal.{Causes, verdict, wrong_header, wrong_crc}
+use Rattle.base.proofs.Refused.{verdict-front, cause-by-parts, verdict-kept, verdict-further, answer-no, answer-yes, answer-number}
+use Rattle.space_packet.specs.Header.{header_wrong, crc_wrong}
 use Rattle.command.specs.declared.Fields.{Fields}
 use Rattle.command_reading.specs.declared.Command.{Command}
-use Rattle.command.specs.Layout.{fields_in}
-use Rattle.command_catalogue.specs.Rules.{asked_wrong}
-use Rattle.command.specs.Asking.{first_causes}
-use Rattle.command.proofs.Verdicts.{argument-right, total-within}
+use Rattle.command.specs.Layout.{packet_id, fields_in}
+use Rattle.command_catalogue.specs.Rules.{asked_wrong, judge_causes}
+use Rattle.command.specs.Asking.{first_causes, last_causes}
+use Rattle.command.proofs.Verdicts.{argument-right, total-within, judged-last}
 use Rattle.command_reading.specs.Reading.{command, refused, packet_causes, read_causes, given, read_reply, further_reply}
+
+-- ---- the verdict on a packet
+
+pub packet-by-causes : (c m : ℕ) (f : Fields) (bs : List ℕ) → asked_wrong c m ≡ false → {o s r : ℕ} {h k : Bool}
+    → o ≡ verdict (judge_causes c m f.command_type f.qualifier f.address f.«data» (take (length bs - 2 - 12) (drop 12 bs)))
+    → h ≡ header_wrong packet_id bs → k ≡ crc_wrong bs → s ≡ cond k wrong_crc o → r ≡ cond h wrong_header s → r ≡ verdict (packet_causes c m f bs)
+packet-by-causes c m f bs asked eo eh ek es er =
+    let l : length bs - 2 - 12 ≡ length bs - 14 = omega arith in
+    let judged = eo ∙ judged-last c m f (take (length bs - 2 - 12) (drop 12 bs)) asked ∙ ap (λ (n : ℕ). verdict (last_causes c m f (take n (drop 12 bs)))) l in
+    er ∙ cause-by-parts wrong_header eh (es ∙ cause-by-parts wrong_crc ek judged)
 
 -- ---- the replies
 

@@ -2,10 +2,11 @@
 use mathlib.Core.Path.{◌≡◌, refl, sym, ap, ◌∙◌}
 use mathlib.Core.Bool.{Bool, false, cond, ◌||◌}
 use mathlib.Core.List.{List, [], ◌∷◌, ◌++◌}
-use Prim.Native.Nat.{ℕ, ◌+◌, ◌≤◌, ◌<◌}
+use Prim.Native.Nat.{ℕ, ◌+◌, ◌-◌, ◌≤◌, ◌<◌}
 use lib.Dec.{ltb}
 use lib.ListN.{length}
 use borrow.Author.Tests.{ltb-true, ltb-false, not-false}
+use Rattle.base.specs.Number.{high_byte, low_byte}
 use Rattle.base.specs.Refusal.{Causes, verdict, no_room}
 use Rattle.base_room.specs.Room.{put}
 use Rattle.base.proofs.Booleans.{or-false}
@@ -21,6 +22,15 @@ use Rattle.command_catalogue.specs.Rules.{asked_wrong, judge_causes}
 use Rattle.command.specs.Asking.{first_causes, last_causes}
 use Rattle.command.proofs.Verdicts.{argument-right, total-within, judged-last}
 use Rattle.command_writing.specs.Writing.{count_wrong, write_causes, write_reply, write_room}
+
+-- ---- the head
+
+-- each field in its bytes, one after the other
+pub head-by-bytes : (f : Fields) (total : ℕ) {i j s t l m a b d e : ℕ} → i ≡ high_byte 0x13EE → j ≡ low_byte 0x13EE → s ≡ high_byte (49152 + f.sequence)
+    → t ≡ low_byte (49152 + f.sequence) → l ≡ high_byte (total - 7) → m ≡ low_byte (total - 7) → a ≡ high_byte f.address → b ≡ low_byte f.address
+    → d ≡ high_byte f.«data» → e ≡ low_byte f.«data»
+    → ◌≡◌ {A = List ℕ} (i ∷ j ∷ s ∷ t ∷ l ∷ m ∷ f.command_type ∷ f.qualifier ∷ a ∷ b ∷ d ∷ e ∷ []) (laid widths (head_of total f))
+head-by-bytes f total ei ej es et el em ea eb ed ee = cc
 
 -- ---- the reply
 

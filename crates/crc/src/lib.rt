@@ -10,10 +10,14 @@ ghost use Rattle.crc.specs.Crc.{crc_step, crc_words, crc_bytes};
 // The register at the start of a message.
 pub const START: u16 = 0xffff;
 
-// A message of words: the first ones, so that the rest are whole blocks of four, and then block by block.
+// A message of words: the first ones, so that the rest are whole blocks of four, and then block by block. The shortest go before all else, here and in
+// `bytes`, so that they pay for no block: with the test in `let` alone they took a third more time.
 pub fn words(start: u16, message: &[u16]) -> u16
     ensures { result ≡ crc_words start message.now }
 {
+    if message.len() < 4 {
+        return few_words(start, message);
+    }
     let (head, blocks) = message.as_rchunks::<4>();
     let (Some(first), Some((next, rest))) = (message.first_chunk::<4>(), blocks.split_first())
     else {
@@ -45,6 +49,9 @@ fn next_word(r: u16, word: u16) -> u16
 pub fn bytes(start: u16, message: &[u8]) -> u16
     ensures { result ≡ crc_bytes start message.now }
 {
+    if message.len() < 8 {
+        return few_bytes(start, message);
+    }
     let (front, pairs) = message.split_at(message.len() % 2);
     let r = few_bytes(start, front);
     let (head, blocks) = pairs.as_rchunks::<8>();

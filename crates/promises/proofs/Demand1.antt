@@ -1,5 +1,5 @@
 -- Demand 1 is each family's ties.
-use Rattle.promises.specs.Demand1.{Calls, Total, Demand1}
+use Rattle.promises.specs.Demand1.{Calls, Total, Walks, Demand1}
 use Rattle.promises.proofs.calls.Base as base
 use Rattle.promises.proofs.calls.Crc as crc
 use Rattle.promises.proofs.calls.Parity as parity
@@ -139,5 +139,8 @@ blocks =
       append_number = program.append-number;
     }
 
+walks : Walks
+walks = record { chunks_next = chunk.chunks-next; pieces_next = frame.pieces-next }
+
 pub demand-1 : Demand1
-demand-1 = record { calls = calls; blocks = blocks }
+demand-1 = record { calls = calls; blocks = blocks; walks = walks }

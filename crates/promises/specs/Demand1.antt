@@ -1,7 +1,7 @@
 -- FORMAT, "The three demands", the first: every public call accepts every input and ends, and a refusal has its number, in order, with zeros beside it and
 -- nothing altered. That each ends is its own proof. The rest stands here, of each public function under its name, but of those that read or write a
 -- descriptor or a file: nothing can be said of what comes or goes there.
-use Rattle.promises.specs.Ties.{Determined, Answers}
+use Rattle.promises.specs.Ties.{Determined, Answers, Turned}
 use Rattle.promises.specs.calls.Base as base
 use Rattle.promises.specs.calls.Crc as crc
 use Rattle.promises.specs.calls.Parity as parity
@@ -139,6 +139,12 @@ pub record Total : Type 0 where
   pub append : Determined program.append
   pub append_number : Determined program.append_number
 
+-- The walks, by which calls and programs go through a recording: a turn of each gives what the building block of its step gives, and goes on past it.
+pub record Walks : Type 0 where
+  pub chunks_next : Turned chunk.chunks_next
+  pub pieces_next : Turned frame.pieces_next
+
 pub record Demand1 : Type 0 where
   pub calls : Calls
   pub blocks : Total
+  pub walks : Walks

@@ -134,3 +134,19 @@ pub record Answers (c : Call) : Type 0 where
   pub ordered : Ordered c
   pub refusing : Refusing c
   pub numbered : Numbered c
+
+-- ---- a walk
+
+-- A walk over a recording, turn by turn: the law of its `next`, of the walk before, what is given and the walk afterwards; what is seen of a walk; and what the
+-- definition says that is given, and is seen afterwards, of the walk before alone.
+pub record Walk : Type 1 where
+  pub State : Type 0
+  pub Given : Type 0
+  pub Seen : Type 0
+  pub gives : State → Given → State → Type 0
+  pub seen : State → Seen
+  pub defined : State → Given × Seen
+
+-- a turn gives what the definition says, and the walk goes on from there
+abbrev pub Turned : Walk → Type 0
+Turned w = (s : w.State) (r : w.Given) (t : w.State) → w.gives s r t → ◌≡◌ {A = w.Given × w.Seen} (r, w.seen t) (w.defined s)

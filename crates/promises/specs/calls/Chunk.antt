@@ -1,8 +1,11 @@
 -- The functions of `chunk`, `chunk_reading`, `chunk_writing` and `chunk_outline`: the contract, what the caller sees, and the definition that says it.
-use Rattle.std.specs.Prelude.{ℕ, false, List, [], length, drop}
+use Rattle.std.specs.Prelude.{ℕ, false, List, [], length, drop, Option, None, Some}
 use Rattle.std.proofs.Math.Option.{none, some}
+use Rattle.base.specs.declared.Words.{Words}
 use Rattle.base.specs.declared.Written.{Written}
 use Rattle.base.specs.Refusal.{wrote}
+use Rattle.chunk.specs.declared.Entry.{Entry}
+use Rattle.chunk.specs.declared.walk.Chunks.{Chunks}
 use Rattle.chunk.specs.Header as header
 use Rattle.chunk.specs.Reading.{listed_at, next_from}
 use Rattle.chunk_reading.specs.Counting as counting
@@ -27,6 +30,7 @@ use Rattle.chunk.specs.contracts.search.next as next_contract
 use Rattle.chunk.proofs.search.next.Reads as next_reads
 use Rattle.chunk.specs.contracts.search.chunks as chunks_contract
 use Rattle.chunk.proofs.search.chunks.Reads as chunks_reads
+use Rattle.chunk.specs.contracts.walk.ChunksIterator.TheImpl as chunks_walk
 use Rattle.chunk_reading.specs.contracts.counting.refused as refused_contract
 use Rattle.chunk_reading.proofs.counting.refused.Reads as refused_reads
 use Rattle.chunk_reading.specs.contracts.counting.count as count_contract
@@ -43,7 +47,7 @@ use Rattle.chunk_writing.specs.contracts.write_chunk as write_chunk_contract
 use Rattle.chunk_writing.proofs.write_chunk.Reads as write_chunk_reads
 use Rattle.chunk_outline.specs.contracts.outline as outline_contract
 use Rattle.chunk_outline.proofs.outline.Reads as outline_reads
-use Rattle.promises.specs.Ties.{Function, replies, shows, Call, replies_or_refuses, shows_or_refuses}
+use Rattle.promises.specs.Ties.{Function, replies, shows, Call, replies_or_refuses, shows_or_refuses, Walk}
 
 -- `chunk::header::size_of`
 abbrev pub size_of : Function
@@ -98,6 +102,23 @@ abbrev pub chunks : Function
 chunks =
     shows chunks_contract.ended chunks_reads.Asked chunks_reads.Post
     (List ℕ × (ℕ × ℕ)) (λ κs x e. (x.words.now, (x.sync, x.at.0))) λ κs (words, (sync, _)). (words.now, (sync, 0))
+
+-- where a walk over chunks goes on: past the chunk that it found
+abbrev pub past : ℕ → Option (Entry × Words) → ℕ
+past at None = at
+past at (Some (e, next)) = next.0
+
+-- `chunk::walk::Chunks::next`: what is found, and the words, the sync word and the place of the walk afterwards
+abbrev pub chunks_next : Walk
+chunks_next =
+    record {
+      State = Chunks;
+      Given = Option (Entry × Words);
+      Seen = List ℕ × (ℕ × ℕ);
+      gives = chunks_walk.ghosts.next_gives;
+      seen = λ s. (s.words.now, (s.sync, s.at.0));
+      defined = λ s. let r = next_from s.sync s.words.now s.at.0 in (r, (s.words.now, (s.sync, past s.at.0 r)));
+    }
 
 -- `chunk_reading::counting::refused`
 abbrev pub refused : Function

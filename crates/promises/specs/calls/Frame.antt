@@ -1,9 +1,11 @@
 -- The functions of `frame` and `frame_reading`: the contract, what the caller sees, and the definition that says it.
-use Rattle.std.specs.Prelude.{ℕ, List, length}
+use Rattle.std.specs.Prelude.{ℕ, List, length, Option, None, Some}
 use Rattle.std.proofs.Math.Option.{some}
+use Rattle.frame.specs.declared.Piece.{Piece}
+use Rattle.frame.specs.declared.walk.Pieces.{Pieces}
 use Rattle.frame_reading.specs.declared.Frame.{Frame}
 use Rattle.frame.specs.Shape as shape
-use Rattle.frame.specs.Pieces.{next_piece}
+use Rattle.frame.specs.Pieces.{next_piece, piece_past}
 use Rattle.frame_reading.specs.Replies.{refused, at_causes, at_reply, judge_causes, judge_reply, read_causes, read_reply, read_room}
 use Rattle.frame.specs.contracts.starts as starts_contract
 use Rattle.frame.proofs.starts.Reads as starts_reads
@@ -11,13 +13,14 @@ use Rattle.frame.specs.contracts.pieces.next as next_contract
 use Rattle.frame.proofs.pieces.next.Reads as next_reads
 use Rattle.frame.specs.contracts.pieces.pieces as pieces_contract
 use Rattle.frame.proofs.pieces.pieces.Reads as pieces_reads
+use Rattle.frame.specs.contracts.walk.PiecesIterator.TheImpl as pieces_walk
 use Rattle.frame_reading.specs.contracts.at as at_contract
 use Rattle.frame_reading.proofs.at.Reads as at_reads
 use Rattle.frame_reading.specs.contracts.judge as judge_contract
 use Rattle.frame_reading.proofs.judge.Reads as judge_reads
 use Rattle.frame_reading.specs.contracts.read as read_contract
 use Rattle.frame_reading.proofs.read.Reads as read_reads
-use Rattle.promises.specs.Ties.{Function, replies, shows, Call, replies_or_refuses, shows_or_refuses}
+use Rattle.promises.specs.Ties.{Function, replies, shows, Call, replies_or_refuses, shows_or_refuses, Walk}
 
 -- `frame::starts`
 abbrev pub starts : Function
@@ -36,6 +39,23 @@ abbrev pub pieces : Function
 pieces =
     shows pieces_contract.ended pieces_reads.Asked pieces_reads.Post
     (List ℕ × (ℕ × ℕ)) (λ κs x e. (x.words.now, (x.sync, x.at.0))) λ κs (words, (sync, _)). (words.now, (sync, 0))
+
+-- where a walk over frames and strays goes on: where the one that it found ends
+abbrev pub past : ℕ → Option Piece → ℕ
+past at None = at
+past at (Some p) = (piece_past p).0
+
+-- `frame::walk::Pieces::next`: what is found, and the words, the sync word and the place of the walk afterwards
+abbrev pub pieces_next : Walk
+pieces_next =
+    record {
+      State = Pieces;
+      Given = Option Piece;
+      Seen = List ℕ × (ℕ × ℕ);
+      gives = pieces_walk.ghosts.next_gives;
+      seen = λ s. (s.words.now, (s.sync, s.at.0));
+      defined = λ s. let r = next_piece s.sync s.words.now s.at.0 in (r, (s.words.now, (s.sync, past s.at.0 r)));
+    }
 
 -- `frame_reading::at`
 abbrev pub at : Call
