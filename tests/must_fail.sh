@@ -28,7 +28,7 @@ UNFIT = [
 
 
 def connectives(line):
-    return re.findall(r' ([&|]) ', line)
+    return re.findall(r' (&&|\|\||[&|]) ', line)
 
 
 log = pathlib.Path('target/ci.log')

@@ -1,9 +1,9 @@
 #!/usr/bin/env bash
 # docs/PROMISES.md is held to the repository: it names every public function and no other, as a call or as a building block; it names every must-fail edit under
 # the functions that the edit's first line has and no other, two or more of each, and in its map every file is there and has the names that the map gives beside
-# it. The crate `promises` ties the same functions, each to its own contract, and promises each tie once, under the function's name; what else it states is on the
-# contract of its function `hold`. A walk is an iterator, whose `next` is no public function: it is tied by the law that it gives. What C links, `exports_c`, has the functions of `exports` once more, under their names, with their parameters, replies and
-# clauses: no more and no fewer.
+# it. The crate `promises` ties the same functions, each to its own contract, and promises each tie once, under the function's name; what else it states is on
+# the contract of its function `hold`. A walk is an iterator, whose `next` is no public function: it is tied by the law that it gives. What C links,
+# `exports_c`, has the functions of `exports` once more, under their names, with their parameters, replies and clauses: no more and no fewer.
 set -u
 cd "$(dirname "${BASH_SOURCE[0]}")/.." || exit 1
 python3 - <<'PYTHON'
@@ -122,7 +122,12 @@ for field, tie in fields:
 turns = {f'{path.parts[1]}::{path.stem}::{walk}::next'
          for path in pathlib.Path('crates').glob('*/src/*.rt') for walk in re.findall(r'^impl\S* Iterator for (\w+)', path.read_text(), re.M)}
 compare('walk', turns, set(walks))
-compare('promise of', set(walks.values()), set(re.findall(r'^  pub \w+ : Turned (\S+)$', demand, re.M)))
+turned = re.findall(r'^  pub (\w+) : Turned (\S+)$', demand, re.M)
+compare('promise of', set(walks.values()), {tie for _, tie in turned})
+wrong.extend(f'{tie} is promised as {field}' for field, tie in turned if field != tie.split('.')[-1])
+# and the first demand is of all three kinds
+first = demand[demand.index('pub record Demand1 '):].splitlines()[1:]
+compare('part of the first demand', {'  pub calls : Calls', '  pub blocks : Total', '  pub walks : Walks'}, set(first))
 
 # each statement is on the contract of `hold`, but for the first demand: no contract can name what it is said of, so it is held to have its proof
 home = pathlib.Path('crates/promises')

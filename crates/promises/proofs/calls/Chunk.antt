@@ -48,7 +48,7 @@ chunks = determined calls.chunks (λ κs a. tt) λ κs a x e p. ap₂ (λ (ws : 
 -- the place afterwards, by what was found
 goes-on : (at s : Words) (r : Option (Entry × Words)) → MatchOption r (at ≡ s) (λ x. at ≡ x.1) → at.0 ≡ calls.past s.0 r
 goes-on at s None p = ap (λ (w : Words). w.0) p
-goes-on at s (Some (e, next)) p = ap (λ (w : Words). w.0) p
+goes-on at s (Some (e, end)) p = ap (λ (w : Words). w.0) p
 
 pub chunks-next : Turned calls.chunks_next
 chunks-next s r t p =

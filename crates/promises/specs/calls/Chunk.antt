@@ -106,7 +106,7 @@ chunks =
 -- where a walk over chunks goes on: past the chunk that it found
 abbrev pub past : ℕ → Option (Entry × Words) → ℕ
 past at None = at
-past at (Some (e, next)) = next.0
+past at (Some (e, end)) = end.0
 
 -- `chunk::walk::Chunks::next`: what is found, and the words, the sync word and the place of the walk afterwards
 abbrev pub chunks_next : Walk
