@@ -1,8 +1,9 @@
 -- Two answers that are the definition's are one another's: this one law gives `Agree` of every function. And where the definition gives the refusal, so does
--- whatever is tied to it; and the same of the number.
+-- whatever is tied to it; and the same of the number. A walk goes on past what it found.
 use Prim.Native.Nat.{ℕ}
 use mathlib.Core.Path.{◌≡◌, sym, ap, ◌∙◌}
 use mathlib.Core.Option.{Option, none, some}
+use Rattle.std.specs.Prelude as std
 use Rattle.base.specs.Refusal.{verdict}
 use Rattle.promises.specs.Ties.{
   Lifetimes,
@@ -18,6 +19,9 @@ use Rattle.promises.specs.Ties.{
   HasNumber,
   Numbered,
   Answers,
+  Walk,
+  ahead,
+  goes_on,
 }
 
 agrees : (f : Function) → Tied f → Agree f
@@ -54,3 +58,12 @@ answers c all t o r n =
 -- an equation for the reply and one for the room are one for the two together
 pub both : {A B : Type 0} {a b : A} {x y : B} → (a ≡ b) × (x ≡ y) → ◌≡◌ {A = A × B} (a, x) (b, y)
 both p = λ i. (p.0 i, p.1 i)
+
+-- the place afterwards, by what was found
+pub goes-on : (w : Walk) (s t : w.State) (r : std.Option w.Item) → r ≡ ahead w s → std.MatchOption r (w.at t ≡ w.at s) (λ x. w.at t ≡ w.past x)
+    → w.at t ≡ goes_on w.past (w.at s) (ahead w s)
+goes-on w s t r e p = by-found r p ∙ ap (goes_on w.past (w.at s)) e
+  where
+    by-found : (r : std.Option w.Item) → std.MatchOption r (w.at t ≡ w.at s) (λ x. w.at t ≡ w.past x) → w.at t ≡ goes_on w.past (w.at s) r
+    by-found std.None p = p
+    by-found (std.Some x) p = p

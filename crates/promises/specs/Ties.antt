@@ -1,11 +1,13 @@
 -- What it is for a public function to be tied to its definition, and for a call to refuse as FORMAT, "Refusal numbers", says. The checker reads each
 -- contract off the source into two plain claims: the function's `Reads.Asked`, of the arguments, and its `Reads.Post`, of the arguments, the reply and the
 -- parameters at exit. All that is said here is said of these two.
-use Rattle.std.specs.Prelude.{ℕ, ◌≡◌, true}
+use Rattle.std.specs.Prelude.{ℕ, ◌≡◌, true, List}
+use Rattle.std.specs.Prelude as std
 use Rattle.std.proofs.Math.Option.{Option, none, some}
 use contract.Lifetimes.{Lfts}
 use denote.Triple.Entry.{Args, Res}
 use denote.Triple.Clauses.{Ended, AtExit}
+use Rattle.base.specs.declared.Words.{Words}
 use Rattle.base.specs.Refusal.{Causes, follows_paper, verdict}
 
 -- ---- a function
@@ -137,16 +139,33 @@ pub record Answers (c : Call) : Type 0 where
 
 -- ---- a walk
 
--- A walk over a recording, turn by turn: the law of its `next`, of the walk before, what is given and the walk afterwards; what is seen of a walk; and what the
--- definition says that is given, and is seen afterwards, of the walk before alone.
+-- A walk over a recording: the law of its `next`, of the walk before, what is given and the walk afterwards; the words, the sync word and the place of a walk;
+-- what the definition finds by these; and the place past what is found.
 pub record Walk : Type 1 where
   pub State : Type 0
-  pub Given : Type 0
-  pub Seen : Type 0
-  pub gives : State → Given → State → Type 0
-  pub seen : State → Seen
-  pub defined : State → Given × Seen
+  pub Item : Type 0
+  pub gives : State → std.Option Item → State → Type 0
+  pub words : State → List ℕ
+  pub sync : State → ℕ
+  pub at : State → Words
+  pub found : ℕ → List ℕ → ℕ → std.Option Item
+  pub past : Item → Words
 
--- a turn gives what the definition says, and the walk goes on from there
+-- what the definition finds from where the walk stands
+abbrev pub ahead : (w : Walk) → w.State → std.Option w.Item
+ahead w s = w.found (w.sync s) (w.words s) (w.at s).0
+
+-- where a walk goes on: past what was found
+abbrev pub goes_on : {A : Type 0} → (A → Words) → Words → std.Option A → Words
+goes_on past at std.None = at
+goes_on past at (std.Some x) = past x
+
+-- a turn gives what the definition finds, and the walk goes on past it, over the same words, by the same sync word
+pub record Turn (w : Walk) (s : w.State) (r : std.Option w.Item) (t : w.State) : Type 0 where
+  pub found : r ≡ ahead w s
+  pub words : w.words t ≡ w.words s
+  pub sync : w.sync t ≡ w.sync s
+  pub at : w.at t ≡ goes_on w.past (w.at s) (ahead w s)
+
 abbrev pub Turned : Walk → Type 0
-Turned w = (s : w.State) (r : w.Given) (t : w.State) → w.gives s r t → ◌≡◌ {A = w.Given × w.Seen} (r, w.seen t) (w.defined s)
+Turned w = (s : w.State) (r : std.Option w.Item) (t : w.State) → w.gives s r t → Turn w s r t

@@ -1,13 +1,9 @@
 -- Each contract is the tie itself; each refusal is the first arm of `answer`, and the number stands in both arms.
-use mathlib.Core.Path.{◌≡◌, refl, ap, ap₂, ◌∙◌}
+use mathlib.Core.Path.{refl, ap₂}
 use mathlib.Core.List.{List}
 use Prim.Native.Nat.{ℕ}
-use Rattle.std.specs.Prelude.{Option, None, Some, MatchOption}
-use Rattle.base.specs.declared.Words.{Words}
 use Rattle.base.specs.Refusal.{settled}
 use Rattle.base.proofs.Refused.{answer-no, settled-refusal, answer-number}
-use Rattle.chunk.specs.declared.Entry.{Entry}
-use Rattle.chunk.specs.Reading.{next_from}
 use Rattle.chunk_reading.specs.declared.Survey.{Survey}
 use Rattle.chunk_reading.specs.declared.Heading.{Heading}
 use Rattle.chunk_writing.specs.Writing.{write_room}
@@ -15,7 +11,7 @@ use Rattle.chunk_outline.specs.declared.Runs.{Runs}
 use Rattle.chunk_outline.specs.Outline.{outline_reply}
 use Rattle.promises.specs.Ties.{Determined, Answers, Turned}
 use Rattle.promises.specs.calls.Chunk as calls
-use Rattle.promises.proofs.Ties.{determined, answers, both}
+use Rattle.promises.proofs.Ties.{determined, answers, both, goes-on}
 
 pub size-of : Determined calls.size_of
 size-of = determined calls.size_of (λ κs a. tt) λ κs a x e p. p
@@ -45,15 +41,9 @@ next = determined calls.next (λ κs a. tt) λ κs a x e p. p
 pub chunks : Determined calls.chunks
 chunks = determined calls.chunks (λ κs a. tt) λ κs a x e p. ap₂ (λ (ws : List ℕ) (r : ℕ × ℕ). (ws, r)) p.0 (ap₂ (λ (s at : ℕ). (s, at)) p.1.0 p.1.1)
 
--- the place afterwards, by what was found
-goes-on : (at s : Words) (r : Option (Entry × Words)) → MatchOption r (at ≡ s) (λ x. at ≡ x.1) → at.0 ≡ calls.past s.0 r
-goes-on at s None p = ap (λ (w : Words). w.0) p
-goes-on at s (Some (e, end)) p = ap (λ (w : Words). w.0) p
-
 pub chunks-next : Turned calls.chunks_next
 chunks-next s r t p =
-    let on : t.at.0 ≡ calls.past s.at.0 (next_from s.sync s.words.now s.at.0) = goes-on t.at s.at r p.past ∙ ap (calls.past s.at.0) p.found in
-    both (p.found, both (p.words, both (p.sync, on)))
+    record { found = p.found; words = p.words; sync = p.sync; at = goes-on calls.chunks_next s t r p.found p.past }
 
 pub refused : Determined calls.refused
 refused = determined calls.refused (λ κs a. tt) λ κs a x e p. p

@@ -1,18 +1,14 @@
 -- Each contract is the tie itself; each refusal is the first arm of `answer`, and the number stands in both arms.
-use mathlib.Core.Path.{◌≡◌, refl, ap, ap₂, ◌∙◌}
+use mathlib.Core.Path.{refl, ap₂}
 use mathlib.Core.List.{List}
 use Prim.Native.Nat.{ℕ}
-use Rattle.std.specs.Prelude.{Option, None, Some, MatchOption}
-use Rattle.base.specs.declared.Words.{Words}
 use Rattle.base.proofs.Refused.{answer-no, answer-number}
-use Rattle.frame.specs.declared.Piece.{Piece}
-use Rattle.frame.specs.Pieces.{next_piece, piece_past}
 use Rattle.frame_reading.specs.declared.Frame.{Frame}
 use Rattle.frame.specs.Described.{described}
 use Rattle.frame_reading.specs.Replies as replies
 use Rattle.promises.specs.Ties.{Determined, Answers, Turned}
 use Rattle.promises.specs.calls.Frame as calls
-use Rattle.promises.proofs.Ties.{determined, answers, both}
+use Rattle.promises.proofs.Ties.{determined, answers, both, goes-on}
 
 pub starts : Determined calls.starts
 starts = determined calls.starts (λ κs a. tt) λ κs a x e p. p
@@ -24,15 +20,9 @@ next = determined calls.next (λ κs a. tt) λ κs a x e p. p
 pub pieces : Determined calls.pieces
 pieces = determined calls.pieces (λ κs a. tt) λ κs a x e p. ap₂ (λ (ws : List ℕ) (r : ℕ × ℕ). (ws, r)) p.0 (ap₂ (λ (s at : ℕ). (s, at)) p.1.0 p.1.1)
 
--- the place afterwards, by what was found
-goes-on : (at s : Words) (r : Option Piece) → MatchOption r (at ≡ s) (λ x. at ≡ piece_past x) → at.0 ≡ calls.past s.0 r
-goes-on at s None p = ap (λ (w : Words). w.0) p
-goes-on at s (Some x) p = ap (λ (w : Words). w.0) p
-
 pub pieces-next : Turned calls.pieces_next
 pieces-next s r t p =
-    let on : t.at.0 ≡ calls.past s.at.0 (next_piece s.sync s.words.now s.at.0) = goes-on t.at s.at r p.past ∙ ap (calls.past s.at.0) p.next in
-    both (p.next, both (p.words, both (p.sync, on)))
+    record { found = p.next; words = p.words; sync = p.sync; at = goes-on calls.pieces_next s t r p.next p.past }
 
 pub at : Answers calls.at
 unfolding replies.at_reply described

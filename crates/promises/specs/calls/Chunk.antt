@@ -1,5 +1,5 @@
 -- The functions of `chunk`, `chunk_reading`, `chunk_writing` and `chunk_outline`: the contract, what the caller sees, and the definition that says it.
-use Rattle.std.specs.Prelude.{ℕ, false, List, [], length, drop, Option, None, Some}
+use Rattle.std.specs.Prelude.{ℕ, false, List, [], length, drop}
 use Rattle.std.proofs.Math.Option.{none, some}
 use Rattle.base.specs.declared.Words.{Words}
 use Rattle.base.specs.declared.Written.{Written}
@@ -103,21 +103,18 @@ chunks =
     shows chunks_contract.ended chunks_reads.Asked chunks_reads.Post
     (List ℕ × (ℕ × ℕ)) (λ κs x e. (x.words.now, (x.sync, x.at.0))) λ κs (words, (sync, _)). (words.now, (sync, 0))
 
--- where a walk over chunks goes on: past the chunk that it found
-abbrev pub past : ℕ → Option (Entry × Words) → ℕ
-past at None = at
-past at (Some (e, end)) = end.0
-
--- `chunk::walk::Chunks::next`: what is found, and the words, the sync word and the place of the walk afterwards
+-- `chunk::walk::Chunks::next`
 abbrev pub chunks_next : Walk
 chunks_next =
     record {
       State = Chunks;
-      Given = Option (Entry × Words);
-      Seen = List ℕ × (ℕ × ℕ);
+      Item = Entry × Words;
       gives = chunks_walk.ghosts.next_gives;
-      seen = λ s. (s.words.now, (s.sync, s.at.0));
-      defined = λ s. let r = next_from s.sync s.words.now s.at.0 in (r, (s.words.now, (s.sync, past s.at.0 r)));
+      words = λ s. s.words.now;
+      sync = λ s. s.sync;
+      at = λ s. s.at;
+      found = next_from;
+      past = λ x. x.1;
     }
 
 -- `chunk_reading::counting::refused`

@@ -1,5 +1,5 @@
 -- The functions of `frame` and `frame_reading`: the contract, what the caller sees, and the definition that says it.
-use Rattle.std.specs.Prelude.{ℕ, List, length, Option, None, Some}
+use Rattle.std.specs.Prelude.{ℕ, List, length}
 use Rattle.std.proofs.Math.Option.{some}
 use Rattle.frame.specs.declared.Piece.{Piece}
 use Rattle.frame.specs.declared.walk.Pieces.{Pieces}
@@ -40,21 +40,18 @@ pieces =
     shows pieces_contract.ended pieces_reads.Asked pieces_reads.Post
     (List ℕ × (ℕ × ℕ)) (λ κs x e. (x.words.now, (x.sync, x.at.0))) λ κs (words, (sync, _)). (words.now, (sync, 0))
 
--- where a walk over frames and strays goes on: where the one that it found ends
-abbrev pub past : ℕ → Option Piece → ℕ
-past at None = at
-past at (Some p) = (piece_past p).0
-
--- `frame::walk::Pieces::next`: what is found, and the words, the sync word and the place of the walk afterwards
+-- `frame::walk::Pieces::next`
 abbrev pub pieces_next : Walk
 pieces_next =
     record {
       State = Pieces;
-      Given = Option Piece;
-      Seen = List ℕ × (ℕ × ℕ);
+      Item = Piece;
       gives = pieces_walk.ghosts.next_gives;
-      seen = λ s. (s.words.now, (s.sync, s.at.0));
-      defined = λ s. let r = next_piece s.sync s.words.now s.at.0 in (r, (s.words.now, (s.sync, past s.at.0 r)));
+      words = λ s. s.words.now;
+      sync = λ s. s.sync;
+      at = λ s. s.at;
+      found = next_piece;
+      past = piece_past;
     }
 
 -- `frame_reading::at`
